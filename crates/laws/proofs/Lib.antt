@@ -1,0 +1,4 @@
+pub mod Tests
+pub mod Scan
+pub mod Runs
+pub mod Table

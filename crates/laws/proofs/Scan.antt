@@ -1,0 +1,77 @@
+-- The first place that passes a test, as a loop finds it, and ranges. Assumes nothing.
+use Prim.Native.Nat.{ℕ, zero, suc, _+_, _-_, _<_, _≤_}
+use mathlib.Core.Path.{_≡_, refl, sym, ap, _∙_}
+use mathlib.Core.Bool.{Bool, true, false, cond, _&&_}
+use mathlib.Core.Logic.{⊎-elim}
+use native.Mathlib.Omega.{arith}
+use native.Mathlib.Nat.{eq-or-lt-of-le}
+use borrow.Author.Tests.{le-leb, lt-leb}
+use lib.Dec.{leb}
+use Rattle.laws.specs.Scan.{firstFrom, within}
+
+-- a loop from i to e that looks for the first place: what it finds, what it passes, and its end
+module _ (p : ℕ → Bool) (i e : ℕ) where
+  pub first-here : i < e → p i ≡ true → firstFrom p i (e - i) ≡ i
+  unfolding firstFrom
+  first-here l h = let n : e - i ≡ suc (e - (i + 1)) = omega arith in rw (n, h)
+
+  pub first-next : i < e → p i ≡ false → firstFrom p i (e - i) ≡ firstFrom p (i + 1) (e - (i + 1))
+  unfolding firstFrom
+  first-next l h = let n : e - i ≡ suc (e - (i + 1)) = omega arith in rw (n, h)
+
+  pub first-end : e ≤ i → firstFrom p i (e - i) ≡ i
+  unfolding firstFrom
+  first-end l = let n : e - i ≡ 0 = omega arith in rw n
+
+-- what is found lies from i to i + n
+pub first-within : (p : ℕ → Bool) (i n : ℕ) → (i ≤ firstFrom p i n) × (firstFrom p i n ≤ i + n)
+unfolding firstFrom
+first-within p i zero = (omega arith, omega arith)
+first-within p i (suc n) = go (p i) (first-within p (i + 1) n)
+  where
+    go : (b : Bool) → (i + 1 ≤ firstFrom p (i + 1) n) × (firstFrom p (i + 1) n ≤ i + 1 + n)
+        → (i ≤ cond b i (firstFrom p (i + 1) n)) × (cond b i (firstFrom p (i + 1) n) ≤ i + suc n)
+    go true r = (omega arith, omega arith)
+    go false r = (omega arith, omega arith)
+
+-- what is found passes the test, if it lies before the end
+pub first-holds : (p : ℕ → Bool) (i n : ℕ) → firstFrom p i n < i + n → p (firstFrom p i n) ≡ true
+unfolding firstFrom
+first-holds p i zero l = let z : ⊥ = omega arith in absurd z
+first-holds p i (suc n) l = go (p i) refl l (first-holds p (i + 1) n)
+  where
+    go : (b : Bool) → p i ≡ b → cond b i (firstFrom p (i + 1) n) < i + suc n → (firstFrom p (i + 1) n < i + 1 + n → p (firstFrom p (i + 1) n) ≡ true)
+        → p (cond b i (firstFrom p (i + 1) n)) ≡ true
+    go true h m rest = h
+    go false h m rest = rest (omega arith)
+
+-- what lies before it does not pass
+pub first-before : (p : ℕ → Bool) (i n k : ℕ) → i ≤ k → k < firstFrom p i n → p k ≡ false
+unfolding firstFrom
+first-before p i zero k low high = let z : ⊥ = omega arith in absurd z
+first-before p i (suc n) k low high = go (p i) refl high (first-before p (i + 1) n k)
+  where
+    go : (b : Bool) → p i ≡ b → k < cond b i (firstFrom p (i + 1) n) → (i + 1 ≤ k → k < firstFrom p (i + 1) n → p k ≡ false) → p k ≡ false
+    go true h m rest = let z : ⊥ = omega arith in absurd z
+    go false h m rest = ⊎-elim (λ (q : i ≡ k). ap p (sym q) ∙ h) (λ (q : i < k). rest (omega arith) m) (eq-or-lt-of-le low)
+
+-- a search that finds nothing has passed every place
+pub first-none : (p : ℕ → Bool) (i n : ℕ) → firstFrom p i n ≡ i + n → (k : ℕ) → i ≤ k → k < i + n → p k ≡ false
+first-none p i n e k low high = first-before p i n k low (omega arith)
+
+module _ (a e x : ℕ) where
+  pub within-yes : a ≤ x → x ≤ e → within a e x ≡ true
+  unfolding within
+  within-yes p q = rw (le-leb a x p, le-leb x e q)
+
+  pub within-below : x < a → within a e x ≡ false
+  unfolding within
+  within-below p = rw (lt-leb a x p)
+
+  pub within-above : e < x → within a e x ≡ false
+  unfolding within
+  within-above p = go (leb a x)
+    where
+      go : (t : Bool) → (t && leb x e) ≡ false
+      go true = lt-leb x e p
+      go false = refl
