@@ -1,0 +1,120 @@
+//! The oracle's command line (see README.md).
+
+use oracle::ask::{ask, Call, DECODE_SMI_BYTES, FUNCTIONS, LISTING, NO_OBJECT};
+use oracle::checks;
+use oracle::port::{Port, STORE, TABLE};
+use oracle::records::Files;
+use oracle::{cases, sample, vectors};
+use std::path::Path;
+use std::process::ExitCode;
+
+const USAGE: &str = "usage:
+  oracle sample DIR                   write document 01's sample as eight record files
+  oracle list DIR                     the listing of object 0, or a refusal
+  oracle call DIR FUNCTION ARGS..     the answer of one function (lent code: DIR/code.bin, else object 0's)
+  oracle functions                    the functions, their numbers and arguments
+  oracle cases                        document 01's rows: what it says and what the Rust says
+  oracle record OUT                   write the vectors of these rows
+  oracle replay FILE                  ask every call of a vector file again";
+
+fn main() -> ExitCode {
+    let args: Vec<String> = std::env::args().skip(1).collect();
+    let args: Vec<&str> = args.iter().map(String::as_str).collect();
+    let done = match args.as_slice() {
+        ["sample", folder] => sample::sample().write(Path::new(folder)).map(|_| true),
+        ["list", folder] => list(Path::new(folder)),
+        ["call", folder, function, args @ ..] => call(Path::new(folder), function, args),
+        ["functions"] => functions(),
+        ["cases"] => {
+            let (table, same) = cases::report();
+            print!("{table}");
+            Ok(same)
+        }
+        ["record", out] => record(out),
+        ["replay", file] => replay(file),
+        _ => Err(USAGE.into()),
+    };
+    match done {
+        Ok(true) => ExitCode::SUCCESS,
+        Ok(false) => ExitCode::from(1),
+        Err(message) => {
+            eprintln!("{message}");
+            ExitCode::from(2)
+        }
+    }
+}
+
+fn list(folder: &Path) -> Result<bool, String> {
+    let files = Files::read(folder)?;
+    let said = ask(&files, &[], &Call::new(LISTING, &[]))?.to_string();
+    println!("{}", said.trim_end_matches('\n'));
+    Ok(true)
+}
+
+fn call(folder: &Path, function: &str, args: &[&str]) -> Result<bool, String> {
+    let files = Files::read(folder)?;
+    let number = FUNCTIONS.iter().position(|f| f.name == function);
+    let number = number.ok_or(format!("no function {function}; `oracle functions` lists them"))?;
+    let call = if number == DECODE_SMI_BYTES {
+        Call::smi_bytes(&hex(&args.concat())?)
+    } else {
+        let words: Result<Vec<u64>, String> = args.iter().map(|a| word(a)).collect();
+        Call::new(number, &words?)
+    };
+    println!("{}", ask(&files, &lent_code(folder, &files)?, &call)?);
+    Ok(true)
+}
+
+/// A number in two's complement; `none` stands for no object.
+fn word(arg: &str) -> Result<u64, String> {
+    match arg {
+        "none" => Ok(NO_OBJECT),
+        _ if arg.starts_with('-') => arg.parse::<i64>().map(|v| v as u64),
+        _ => arg.parse(),
+    }
+    .map_err(|_: std::num::ParseIntError| format!("not a number: {arg}"))
+}
+
+fn hex(digits: &str) -> Result<Vec<u8>, String> {
+    let pairs = digits.as_bytes().chunks(2).map(|p| std::str::from_utf8(p).unwrap_or(""));
+    let bytes: Result<Vec<u8>, _> = pairs.map(|p| u8::from_str_radix(p, 16)).collect();
+    bytes.ok().filter(|_| digits.len() % 2 == 0).ok_or(format!("not bytes in hex: {digits}"))
+}
+
+/// code.bin where it is there, else the code of object 0 where it has some.
+fn lent_code(folder: &Path, files: &Files) -> Result<Vec<u8>, String> {
+    if let Ok(code) = std::fs::read(folder.join("code.bin")) {
+        return Ok(code);
+    }
+    let good = checks::table(files, TABLE)
+        .and_then(|_| checks::store(files, usize::MAX))
+        .and_then(|_| checks::function(files, 0));
+    if good.is_err() {
+        return Ok(Vec::new());
+    }
+    let port = Port::new(files, TABLE | STORE)?;
+    match checks::code_length(port.code_length(0)) {
+        Ok(()) => Ok(port.code(0).to_vec()),
+        Err(_) => Ok(Vec::new()),
+    }
+}
+
+fn functions() -> Result<bool, String> {
+    for (number, function) in FUNCTIONS.iter().enumerate() {
+        println!("{number:>2} {} {}", function.name, function.args.join(" "));
+    }
+    Ok(true)
+}
+
+fn record(out: &str) -> Result<bool, String> {
+    let vectors = cases::record()?;
+    std::fs::write(out, &vectors.out).map_err(|e| format!("{out}: {e}"))?;
+    println!("{} calls, {} bytes", vectors.calls, vectors.out.len());
+    Ok(true)
+}
+
+fn replay(file: &str) -> Result<bool, String> {
+    let vectors = std::fs::read(file).map_err(|e| format!("{file}: {e}"))?;
+    println!("{} calls, all the same", vectors::replay(&vectors)?);
+    Ok(true)
+}

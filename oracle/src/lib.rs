@@ -1,0 +1,15 @@
+//! The published Rust as an oracle over document 01's record files.
+//!
+//! records: the eight files. port: files into the Rust's own structures. decode: its decoder, with
+//! document 01's numbers. checks: the refusals that the Rust does not have. ask: the answer of one
+//! function. vectors: answers as a file. sample, cases: document 01's sample and rows.
+
+pub mod ask;
+pub mod cases;
+pub mod checks;
+pub mod decode;
+pub mod port;
+pub mod random;
+pub mod records;
+pub mod sample;
+pub mod vectors;

@@ -1,0 +1,140 @@
+//! Vector files: record files, lent code and calls with their answers (see FORMAT.md).
+
+use crate::ask::{self, Answer, Call, DECODE_SMI_BYTES, FUNCTIONS};
+use crate::records::Files;
+
+const CODE: u8 = 8;
+const CALL: u8 = 32;
+
+#[derive(Default)]
+pub struct Writer {
+    pub out: Vec<u8>,
+    files: Files,
+    code: Vec<u8>,
+    pub calls: usize,
+}
+
+impl Writer {
+    fn item(&mut self, kind: u8, body: &[u8]) {
+        self.out.push(kind);
+        self.out.extend((body.len() as u32).to_le_bytes());
+        self.out.extend(body);
+    }
+
+    /// Sets the record files; those that stay as they are take no item.
+    pub fn files(&mut self, files: &Files) {
+        for k in 0..8 {
+            if files.body[k] != self.files.body[k] {
+                self.item(k as u8, &files.body[k]);
+            }
+        }
+        self.files = files.clone();
+    }
+
+    pub fn code(&mut self, code: &[u8]) {
+        if code != self.code {
+            self.item(CODE, code);
+            self.code = code.to_vec();
+        }
+    }
+
+    /// Asks the call on the files and code set last, and records the answer.
+    pub fn call(&mut self, call: &Call) -> Result<Answer, String> {
+        let answer = ask::ask(&self.files, &self.code, call)?;
+        self.item(CALL + call.function as u8, &body(call, &answer));
+        self.calls += 1;
+        Ok(answer)
+    }
+}
+
+/// The body of a call: arguments, status, answer.
+fn body(call: &Call, answer: &Answer) -> Vec<u8> {
+    let mut out: Vec<u8> = call.args.iter().flat_map(|a| a.to_le_bytes()).collect();
+    out.extend(&call.bytes);
+    match answer {
+        Answer::Nothing => out.push(0),
+        Answer::Found { words, text } => {
+            out.push(1);
+            out.extend(words.iter().flat_map(|w| w.bits().to_le_bytes()));
+            out.extend(text.as_bytes());
+        }
+        Answer::Refused(refusal) => {
+            out.push(2);
+            out.extend(refusal.number.to_le_bytes());
+            out.extend(refusal.place.to_le_bytes());
+        }
+        Answer::End => out.push(3),
+    }
+    out
+}
+
+/// Asks every call of a vector file again. Gives the number of calls, or the first that differs.
+pub fn replay(vectors: &[u8]) -> Result<usize, String> {
+    let mut files = Files::default();
+    let mut code = Vec::new();
+    let mut calls = 0;
+    let mut rest = vectors;
+    while !rest.is_empty() {
+        let at = vectors.len() - rest.len();
+        let (kind, body_was, behind) = split(rest).ok_or(format!("item at {at} is cut"))?;
+        match kind {
+            0..=7 => files.body[kind as usize] = body_was.to_vec(),
+            CODE => code = body_was.to_vec(),
+            _ => {
+                let call = arguments(kind, body_was).ok_or(format!("bad item at {at}"))?;
+                let answer = ask::ask(&files, &code, &call)?;
+                if body(&call, &answer) != body_was {
+                    let name = FUNCTIONS[call.function].name;
+                    return Err(format!("item at {at}: {name} {:?} is now {answer}", call.args));
+                }
+                calls += 1;
+            }
+        }
+        rest = behind;
+    }
+    Ok(calls)
+}
+
+/// Kind and body of the first item, and what is behind it.
+fn split(items: &[u8]) -> Option<(u8, &[u8], &[u8])> {
+    let length = u32::from_le_bytes(items.get(1..5)?.try_into().ok()?) as usize;
+    Some((items[0], items.get(5..5 + length)?, &items[5 + length..]))
+}
+
+fn arguments(kind: u8, body: &[u8]) -> Option<Call> {
+    let function = kind.checked_sub(CALL)? as usize;
+    let count = FUNCTIONS.get(function)?.args.len();
+    let words = body.get(..8 * count)?.chunks_exact(8);
+    let args: Vec<u64> = words.map(|w| u64::from_le_bytes(w.try_into().unwrap())).collect();
+    let held = if function == DECODE_SMI_BYTES { args[0] as usize } else { 0 };
+    let bytes = body[8 * count..].get(..held)?.to_vec();
+    Some(Call { function, args, bytes })
+}
+
+#[cfg(test)]
+mod tests {
+    use super::*;
+    use crate::sample;
+
+    #[test]
+    fn a_changed_byte_is_seen() {
+        let mut writer = Writer::default();
+        writer.files(&sample::sample());
+        writer.call(&Call::new(ask::LISTING, &[])).unwrap();
+        writer.call(&Call::smi_bytes(&[2, 0, 0, 0])).unwrap();
+        assert_eq!(replay(&writer.out), Ok(2));
+        let last = writer.out.len() - 1;
+        writer.out[last] ^= 1;
+        assert!(replay(&writer.out).is_err());
+        assert!(replay(&writer.out[..last]).is_err());
+    }
+
+    #[test]
+    fn form_of_an_item() {
+        let mut writer = Writer::default();
+        writer.call(&Call::smi_bytes(&[0xfe, 0xff, 0xff, 0xff])).unwrap();
+        let mut wanted = vec![39, 21, 0, 0, 0, 4, 0, 0, 0, 0, 0, 0, 0, 0xfe, 0xff, 0xff, 0xff, 1];
+        wanted.extend([0xff; 8]);
+        assert_eq!(writer.out, wanted);
+    }
+}
