@@ -1,13 +1,14 @@
 -- The first place that passes a test, as a loop finds it, and ranges. Assumes nothing.
 use Prim.Native.Nat.{ℕ, zero, suc, _+_, _-_, _<_, _≤_}
 use mathlib.Core.Path.{_≡_, refl, sym, ap, _∙_}
-use mathlib.Core.Bool.{Bool, true, false, cond, _&&_}
-use mathlib.Core.Logic.{⊎-elim}
+use mathlib.Core.Bool.{Bool, true, false, cond, _&&_, _||_}
+use mathlib.Core.Logic.{_⊎_, inl, inr, ⊎-elim}
 use native.Mathlib.Omega.{arith}
 use native.Mathlib.Nat.{eq-or-lt-of-le}
 use borrow.Author.Tests.{le-leb, lt-leb}
 use lib.Dec.{leb}
 use Rattle.laws.specs.Scan.{firstFrom, within}
+use Rattle.laws.proofs.Tests.{clash, under?}
 
 -- a loop from i to e that looks for the first place: what it finds, what it passes, and its end
 module _ (p : ℕ → Bool) (i e : ℕ) where
@@ -75,3 +76,36 @@ module _ (a e x : ℕ) where
       go : (t : Bool) → (t && leb x e) ≡ false
       go true = lt-leb x e p
       go false = refl
+
+-- what passes with nothing before it, or the end where nothing passes, is what is found
+pub first-is : (p : ℕ → Bool) (i n k : ℕ) → i ≤ k → k ≤ i + n → ((j : ℕ) → i ≤ j → j < k → p j ≡ false) → (k < i + n → p k ≡ true) → firstFrom p i n ≡ k
+first-is p i n k low high before here = go (under? f k) (under? k f)
+  where
+    f : ℕ
+    f = firstFrom p i n
+
+    go : (f < k) ⊎ (k ≤ f) → (k < f) ⊎ (f ≤ k) → f ≡ k
+    go (inl l) m = clash (first-holds p i n (omega arith)) (before f (first-within p i n .0) l)
+    go (inr l) (inl m) = clash (here (omega (arith, first-within p i n .1))) (first-before p i n k low m)
+    go (inr l) (inr m) = omega arith
+
+-- the first place of either test: the search for the second ends where the first was found
+pub first-either : (p q : ℕ → Bool) (n : ℕ) → firstFrom (λ k. p k || q k) 0 n ≡ firstFrom q 0 (firstFrom p 0 n)
+first-either p q n = first-is (λ k. p k || q k) 0 n f (omega arith) (omega (arith, first-within p 0 n .1, first-within q 0 b .1)) before here
+  where
+    b : ℕ
+    b = firstFrom p 0 n
+
+    f : ℕ
+    f = firstFrom q 0 b
+
+    before : (j : ℕ) → 0 ≤ j → j < f → (p j || q j) ≡ false
+    before j low l = rw (first-before p 0 n j low (omega (arith, first-within q 0 b .1)), first-before q 0 b j low l)
+
+    here : f < 0 + n → (p f || q f) ≡ true
+    here l = go (p f) refl (under? f b)
+      where
+        go : (t : Bool) → p f ≡ t → (f < b) ⊎ (b ≤ f) → (t || q f) ≡ true
+        go true e m = refl
+        go false e (inl m) = first-holds q 0 b (omega arith)
+        go false e (inr m) = let same : f ≡ b = omega (arith, first-within q 0 b .1) in clash (first-holds p 0 n (omega arith)) (ap p (sym same) ∙ e)
