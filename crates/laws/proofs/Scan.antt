@@ -109,3 +109,13 @@ first-either p q n = first-is (λ k. p k || q k) 0 n f (omega arith) (omega (ari
         go true e m = refl
         go false e (inl m) = first-holds q 0 b (omega arith)
         go false e (inr m) = let same : f ≡ b = omega (arith, first-within q 0 b .1) in clash (first-holds p 0 n (omega arith)) (ap p (sym same) ∙ e)
+
+-- a search one place further on, by a test that is shifted
+pub first-shift : (p q : ℕ → Bool) → ((k : ℕ) → p (suc k) ≡ q k) → (i n : ℕ) → firstFrom p (suc i) n ≡ suc (firstFrom q i n)
+unfolding firstFrom
+first-shift p q e i zero = refl
+first-shift p q e i (suc n) = go (q i) (e i) (first-shift p q e (i + 1) n)
+  where
+    go : (b : Bool) → p (suc i) ≡ b → firstFrom p (suc (i + 1)) n ≡ suc (firstFrom q (i + 1) n) → cond (p (suc i)) (suc i) (firstFrom p (suc i + 1) n) ≡ suc (cond b i (firstFrom q (i + 1) n))
+    go true h r = rw h
+    go false h r = let s : suc i + 1 ≡ suc (i + 1) = omega arith in rw (h, s) r

@@ -3,12 +3,16 @@ use Prim.Native.Nat.{ℕ}
 use mathlib.Core.Bool.{Bool, true, false, cond}
 use lib.Dec.{ltb}
 use Rattle.laws.specs.Scan.{firstFrom}
+use Rattle.refusal.specs.declared.Refusal.{Refusal}
 use Rattle.refusal.specs.declared.Check.{Check}
 use Rattle.refusal.specs.declared.Check.the-variants.{Ok, Refused}
 
 -- what 01 writes as "number at place"
+abbrev pub refusalAt : ℕ → ℕ → Refusal
+refusalAt number at = record { number = number; place = at }
+
 abbrev pub refused : ℕ → ℕ → Check
-refused number at = Refused (record { number = number; place = at })
+refused number at = Refused (refusalAt number at)
 
 -- the first refusal of two
 abbrev pub orElse : Check → Check → Check

@@ -1,0 +1,4 @@
+pub mod Laws
+pub mod Progress
+pub mod Agree
+pub mod Listed
