@@ -2,3 +2,4 @@ pub mod Laws
 pub mod Progress
 pub mod Agree
 pub mod Listed
+pub mod V8

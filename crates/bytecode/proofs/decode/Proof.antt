@@ -1,0 +1,64 @@
+use mathlib.Core.Path.{_≡_, sym, _∙_}
+use mathlib.Core.List.{[]}
+use denote.Ref.{now}
+use Rattle.refusal.specs.Check.{orElse}
+use Rattle.tables.specs.Check.{checkTable}
+use Rattle.bytecode.specs.Decode.{checkCode, decodeOne}
+use borrow.Author.Needs.{needs}
+use Rattle.bytecode.proofs.decode.Statement.{statement}
+use Rattle.bytecode.proofs.decode.Tie as tie
+
+slice-aggregate-check-table : tie.Need-slice-aggregate-check-table
+slice-aggregate-check-table c = search needs
+
+slice-aggregate-check-table-2 : tie.Need-slice-aggregate-check-table-2
+slice-aggregate-check-table-2 c = search needs
+
+check-table-requires : tie.Need-check-table-requires
+check-table-requires c κs = search needs
+
+check-code-requires : tie.Need-check-code-requires
+check-code-requires c κs = search needs
+
+or-else-requires : tie.Need-or-else-requires
+or-else-requires c κs = search needs
+
+enum-known-refusal : tie.Need-enum-known-refusal
+enum-known-refusal c = search needs
+
+blank-instr-requires : tie.Need-blank-instr-requires
+blank-instr-requires c κs = search needs
+
+enum-told : tie.Need-enum-told
+enum-told c = search needs
+
+decode-with-requires : tie.Need-decode-with-requires
+decode-with-requires c κs = search needs
+
+-- what the checks answer
+checked : (c : tie.After-or-else) → let a = c .before .before .before .before .before .before .before .before .before .args in c .or-else .result ≡ orElse (checkTable (now (a .opcodes)) (now (a .types)) [] [] (now (a .layout))) (checkCode (now (a .code)))
+checked c = c .or-else .ensures ∙ rw (c .before .before .check-table .ensures, c .before .check-code .ensures)
+
+returns : tie.Need-returns
+unfolding decodeOne
+returns c = rw (sym (checked (c .before .before .before .before)) ∙ c .before .before .refusal .given .1, c .blank-instr .ensures)
+
+returns-2 : tie.Need-returns-2
+unfolding decodeOne
+returns-2 c = rw (sym (checked (c .before .before .before)) ∙ c .before .enum-told .given .1) (c .decode-with .ensures)
+
+pub decode-spec : {M : Type 1} → statement M
+decode-spec =
+    tie.close
+    (tie.spec
+    slice-aggregate-check-table
+    slice-aggregate-check-table-2
+    check-table-requires
+    check-code-requires
+    or-else-requires
+    enum-known-refusal
+    blank-instr-requires
+    enum-told
+    decode-with-requires
+    returns
+    returns-2)
