@@ -1,0 +1,70 @@
+-- What an instruction does with the flow of control, by its plain name.
+use Prim.Native.Nat.{ℕ, _*_, _<_}
+use mathlib.Core.Path.{_≡_}
+use mathlib.Core.List.{List, [], _∷_, _++_}
+use mathlib.Core.Bool.{Bool, true, false}
+use lib.ListN.{getD, replicate}
+use Rattle.laws.specs.Ascii.{ascii}
+use Rattle.laws.specs.Scan.{firstFrom}
+use Rattle.tables.specs.Names.{isNamed}
+use Rattle.flow.specs.declared.Kind.{Kind}
+use Rattle.flow.specs.declared.Kind.the-variants.{On, Ends, Jumps, Branches, JumpsBack, Switch}
+use Rattle.flow.specs.declared.Flow.{Flow}
+
+-- 01: "Return, SuspendGenerator, Throw, ReThrow, Abort end it."
+abbrev pub endNames : List (List ℕ)
+endNames = ascii "Return" ∷ ascii "SuspendGenerator" ∷ ascii "Throw" ∷ ascii "ReThrow" ∷ ascii "Abort" ∷ []
+
+-- "Jump, JumpConstant, JumpLoop, JumpLoopConstant go to the target."
+abbrev pub jumpNames : List (List ℕ)
+jumpNames = ascii "Jump" ∷ ascii "JumpConstant" ∷ ascii "JumpLoop" ∷ ascii "JumpLoopConstant" ∷ []
+
+-- "Other names in `jump_target`'s list go to the target or e": the Rust's list, those whose distance is an operand
+abbrev pub branchNames : List (List ℕ)
+branchNames =
+    ascii "JumpIfTrue" ∷ ascii "JumpIfFalse" ∷ ascii "JumpIfToBooleanTrue" ∷ ascii "JumpIfToBooleanFalse" ∷ ascii "JumpIfNull" ∷ ascii "JumpIfNotNull"
+    ∷ ascii "JumpIfUndefined" ∷ ascii "JumpIfUndefinedOrNull" ∷ ascii "JumpIfNotUndefined" ∷ ascii "JumpIfJSReceiver" ∷ ascii "JumpIfNotHole" ∷ ascii "JumpIfReferenceError" ∷ ascii "JumpIfNotReferenceError" ∷ []
+
+-- .. and those whose distance comes from the pool
+abbrev pub constantNames : List (List ℕ)
+constantNames =
+    ascii "JumpIfTrueConstant" ∷ ascii "JumpIfFalseConstant" ∷ ascii "JumpIfToBooleanTrueConstant" ∷ ascii "JumpIfToBooleanFalseConstant" ∷ ascii "JumpIfNullConstant"
+    ∷ ascii "JumpIfNotNullConstant" ∷ ascii "JumpIfUndefinedConstant" ∷ ascii "JumpIfUndefinedOrNullConstant" ∷ ascii "JumpIfNotUndefinedConstant"
+    ∷ ascii "JumpIfJSReceiverConstant" ∷ ascii "JumpIfNotHoleConstant" ∷ ascii "JumpIfReferenceErrorConstant" ∷ ascii "JumpIfNotReferenceErrorConstant" ∷ []
+
+-- "only the two .. switch names have entries"
+abbrev pub switchNames : List (List ℕ)
+switchNames = ascii "SwitchOnSmiNoFeedback" ∷ ascii "SwitchOnGeneratorState" ∷ []
+
+unfoldable pub flowNames : List (List ℕ)
+flowNames = endNames ++ jumpNames ++ branchNames ++ constantNames ++ switchNames
+
+abbrev pub plain : Kind → Bool → Flow
+plain kind pool = record { kind = kind; pool = pool; first = 0; base = false }
+
+-- the flow of each of these names
+unfoldable pub flows : List Flow
+flows =
+    replicate 5 (plain Ends false)
+    ++ (plain Jumps false ∷ plain Jumps true ∷ plain JumpsBack false ∷ plain JumpsBack true ∷ [])
+    ++ replicate 13 (plain Branches false) ++ replicate 13 (plain Branches true)
+    ++ (record { kind = Switch; pool = true; first = 0; base = true } ∷ record { kind = Switch; pool = true; first = 1; base = false } ∷ [])
+
+abbrev pub hasFlowName : List ℕ → ℕ → ℕ → Bool
+hasFlowName ops at k = isNamed ops at 40 (getD flowNames k [])
+
+-- the number of the name of the opcode record at place at, 37 where it is none of these
+unfoldable pub flowNumber : List ℕ → ℕ → ℕ
+flowNumber ops at = firstFrom (hasFlowName ops at) 0 37
+
+-- "All others go to e."
+unfoldable pub flowBy : ℕ → Flow
+flowBy k = getD flows k (plain On false)
+
+-- the flow of an opcode
+abbrev pub flowOf : List ℕ → ℕ → Flow
+flowOf ops op = flowBy (flowNumber ops (op * 64))
+
+-- the first n entries of a table are the numbers of the first n opcodes
+abbrev pub Numbered : List ℕ → List ℕ → ℕ → Type 0
+Numbered ops table n = (op : ℕ) → op < n → getD table op 0 ≡ flowNumber ops (op * 64)

@@ -1,0 +1,145 @@
+// What an instruction does with the flow of control, by its plain name: 01's lists in "Walks" and the Rust's list in `jump_target`
+// and `jump_table`. Later wishes read it from the opcode record instead; it stands behind `flow_of` alone.
+ghost use mathlib.Core.Path.{_≡_};
+ghost use Prim.Native.Nat.{_+_, _-_, _*_, _<_, _≤_};
+ghost use lib.ListN.{length};
+ghost use Rattle.laws.specs.Scan.{firstFrom};
+ghost use Rattle.flow.specs.Flow.{plain, hasFlowName, flowNumber, flowBy, Numbered};
+
+pub enum Kind {
+    // Goes to the next instruction.
+    On,
+    // Ends a walk.
+    Ends,
+    // Goes to its target.
+    Jumps,
+    // Goes to its target or on.
+    Branches,
+    // Goes to its target, which lies before it.
+    JumpsBack,
+    // Goes to an entry of its table or on.
+    Switch,
+}
+
+pub struct Flow {
+    pub kind: Kind,
+    // The distance comes from the pool.
+    pub pool: bool,
+    // The number of the first operand used.
+    pub first: u8,
+    // A switch that has a case base.
+    pub base: bool,
+}
+
+// The number of each opcode's flow, for the first 256 opcodes.
+pub fn flow_numbers(opcodes: &[u8]) -> [u8; 256]
+    ensures { λ r. ⌜ Numbered (now (opcodes .entry)) r 256 ⌝ }
+{
+    let mut flows = [0u8; 256];
+    let mut op: usize = 0;
+    while op < 256 {
+        let k = flow_number(opcodes, op * 64);
+        flows[op] = k;
+        op += 1;
+    }
+    flows
+}
+
+// The flow of a number.
+pub fn flow_by(k: u8) -> Flow
+    ensures { λ r. ⌜ r ≡ flowBy k ⌝ }
+{
+    match k {
+        0..=4 => plain(Kind::Ends, false),
+        5 => plain(Kind::Jumps, false),
+        6 => plain(Kind::Jumps, true),
+        7 => plain(Kind::JumpsBack, false),
+        8 => plain(Kind::JumpsBack, true),
+        9..=21 => plain(Kind::Branches, false),
+        22..=34 => plain(Kind::Branches, true),
+        35 => Flow {
+            kind: Kind::Switch,
+            pool: true,
+            first: 0,
+            base: true,
+        },
+        36 => Flow {
+            kind: Kind::Switch,
+            pool: true,
+            first: 1,
+            base: false,
+        },
+        _ => plain(Kind::On, false),
+    }
+}
+
+fn plain(kind: Kind, pool: bool) -> Flow
+    ensures { λ r. ⌜ r ≡ plain kind pool ⌝ }
+{
+    Flow {
+        kind,
+        pool,
+        first: 0,
+        base: false,
+    }
+}
+
+// The first of the 37 names that the opcode record at place at has; 37 where it has none.
+fn flow_number(opcodes: &[u8], at: usize) -> u8
+    ensures { λ r. ⌜ r ≡ flowNumber (now (opcodes .entry)) at ⌝ }
+{
+    let mut k: u8 = 0;
+    while k < 37 {
+        if has_flow_name(opcodes, at, k) {
+            return k;
+        }
+        k += 1;
+    }
+    k
+}
+
+// Whether the opcode record at place at has name k.
+fn has_flow_name(s: &[u8], at: usize, k: u8) -> bool
+    ensures { λ r. ⌜ r ≡ hasFlowName (now (s .entry)) at k ⌝ }
+{
+    match k {
+        0 => tables::name_is(s, at, 40, b"Return"),
+        1 => tables::name_is(s, at, 40, b"SuspendGenerator"),
+        2 => tables::name_is(s, at, 40, b"Throw"),
+        3 => tables::name_is(s, at, 40, b"ReThrow"),
+        4 => tables::name_is(s, at, 40, b"Abort"),
+        5 => tables::name_is(s, at, 40, b"Jump"),
+        6 => tables::name_is(s, at, 40, b"JumpConstant"),
+        7 => tables::name_is(s, at, 40, b"JumpLoop"),
+        8 => tables::name_is(s, at, 40, b"JumpLoopConstant"),
+        9 => tables::name_is(s, at, 40, b"JumpIfTrue"),
+        10 => tables::name_is(s, at, 40, b"JumpIfFalse"),
+        11 => tables::name_is(s, at, 40, b"JumpIfToBooleanTrue"),
+        12 => tables::name_is(s, at, 40, b"JumpIfToBooleanFalse"),
+        13 => tables::name_is(s, at, 40, b"JumpIfNull"),
+        14 => tables::name_is(s, at, 40, b"JumpIfNotNull"),
+        15 => tables::name_is(s, at, 40, b"JumpIfUndefined"),
+        16 => tables::name_is(s, at, 40, b"JumpIfUndefinedOrNull"),
+        17 => tables::name_is(s, at, 40, b"JumpIfNotUndefined"),
+        18 => tables::name_is(s, at, 40, b"JumpIfJSReceiver"),
+        19 => tables::name_is(s, at, 40, b"JumpIfNotHole"),
+        20 => tables::name_is(s, at, 40, b"JumpIfReferenceError"),
+        21 => tables::name_is(s, at, 40, b"JumpIfNotReferenceError"),
+        22 => tables::name_is(s, at, 40, b"JumpIfTrueConstant"),
+        23 => tables::name_is(s, at, 40, b"JumpIfFalseConstant"),
+        24 => tables::name_is(s, at, 40, b"JumpIfToBooleanTrueConstant"),
+        25 => tables::name_is(s, at, 40, b"JumpIfToBooleanFalseConstant"),
+        26 => tables::name_is(s, at, 40, b"JumpIfNullConstant"),
+        27 => tables::name_is(s, at, 40, b"JumpIfNotNullConstant"),
+        28 => tables::name_is(s, at, 40, b"JumpIfUndefinedConstant"),
+        29 => tables::name_is(s, at, 40, b"JumpIfUndefinedOrNullConstant"),
+        30 => tables::name_is(s, at, 40, b"JumpIfNotUndefinedConstant"),
+        31 => tables::name_is(s, at, 40, b"JumpIfJSReceiverConstant"),
+        32 => tables::name_is(s, at, 40, b"JumpIfNotHoleConstant"),
+        33 => tables::name_is(s, at, 40, b"JumpIfReferenceErrorConstant"),
+        34 => tables::name_is(s, at, 40, b"JumpIfNotReferenceErrorConstant"),
+        35 => tables::name_is(s, at, 40, b"SwitchOnSmiNoFeedback"),
+        36 => tables::name_is(s, at, 40, b"SwitchOnGeneratorState"),
+        _ => tables::name_is(s, at, 40, b""),
+    }
+}
