@@ -1,0 +1,10 @@
+pub mod Smi
+pub mod Down
+pub mod Search
+pub mod Slots
+pub mod Field
+pub mod Element
+pub mod Length
+pub mod Offset
+pub mod Calls
+pub mod Shown
