@@ -2,14 +2,19 @@
 //!
 //! records: the eight files. port: files into the Rust's own structures. decode: its decoder, with
 //! document 01's numbers. checks: the refusals that the Rust does not have. ask: the answer of one
-//! function. vectors: answers as a file. sample, cases: document 01's sample and rows.
+//! function. vectors: answers as a file. sample, cases: document 01's sample and rows. recording:
+//! vectors from a seed, out of stores (random ones and their boundaries) and faults, by classes.
 
 pub mod ask;
 pub mod cases;
 pub mod checks;
+pub mod classes;
 pub mod decode;
+pub mod faults;
 pub mod port;
 pub mod random;
+pub mod recording;
 pub mod records;
 pub mod sample;
+pub mod stores;
 pub mod vectors;

@@ -4,6 +4,7 @@ use crate::ask::{self, Answer, Call, DECODE_SMI_BYTES, FUNCTIONS};
 use crate::records::Files;
 
 const CODE: u8 = 8;
+const PART: u8 = 16;
 const CALL: u8 = 32;
 
 #[derive(Default)]
@@ -12,20 +13,38 @@ pub struct Writer {
     files: Files,
     code: Vec<u8>,
     pub calls: usize,
+    shares: bool,
 }
 
 impl Writer {
+    /// A writer that says contents which stand in the file already as a part of it.
+    pub fn sharing() -> Writer {
+        Writer { shares: true, ..Writer::default() }
+    }
+
     fn item(&mut self, kind: u8, body: &[u8]) {
         self.out.push(kind);
         self.out.extend((body.len() as u32).to_le_bytes());
         self.out.extend(body);
     }
 
+    /// Sets a record file or the code, as contents or as a part, whichever is shorter.
+    fn set(&mut self, kind: u8, body: &[u8]) {
+        if self.shares && body.len() > 8 {
+            if let Some(start) = self.out.windows(body.len()).position(|w| w == body) {
+                let numbers = [start as u32, body.len() as u32];
+                let part: Vec<u8> = numbers.iter().flat_map(|n| n.to_le_bytes()).collect();
+                return self.item(PART + kind, &part);
+            }
+        }
+        self.item(kind, body);
+    }
+
     /// Sets the record files; those that stay as they are take no item.
     pub fn files(&mut self, files: &Files) {
         for k in 0..8 {
             if files.body[k] != self.files.body[k] {
-                self.item(k as u8, &files.body[k]);
+                self.set(k as u8, &files.body[k]);
             }
         }
         self.files = files.clone();
@@ -33,7 +52,7 @@ impl Writer {
 
     pub fn code(&mut self, code: &[u8]) {
         if code != self.code {
-            self.item(CODE, code);
+            self.set(CODE, code);
             self.code = code.to_vec();
         }
     }
@@ -77,6 +96,13 @@ pub fn replay(vectors: &[u8]) -> Result<usize, String> {
     while !rest.is_empty() {
         let at = vectors.len() - rest.len();
         let (kind, body_was, behind) = split(rest).ok_or(format!("item at {at} is cut"))?;
+        let (kind, body_was) = match kind {
+            PART..CALL => {
+                let part = part(&vectors[..at], body_was).ok_or(format!("bad part at {at}"))?;
+                (kind - PART, part)
+            }
+            _ => (kind, body_was),
+        };
         match kind {
             0..=7 => files.body[kind as usize] = body_was.to_vec(),
             CODE => code = body_was.to_vec(),
@@ -99,6 +125,12 @@ pub fn replay(vectors: &[u8]) -> Result<usize, String> {
 fn split(items: &[u8]) -> Option<(u8, &[u8], &[u8])> {
     let length = u32::from_le_bytes(items.get(1..5)?.try_into().ok()?) as usize;
     Some((items[0], items.get(5..5 + length)?, &items[5 + length..]))
+}
+
+/// A part of what stands before an item: start and length.
+fn part<'a>(before: &'a [u8], body: &[u8]) -> Option<&'a [u8]> {
+    let number = |at| Some(u32::from_le_bytes(body.get(at..at + 4)?.try_into().ok()?) as usize);
+    before.get(number(0)?..)?.get(..number(4)?)
 }
 
 fn arguments(kind: u8, body: &[u8]) -> Option<Call> {
@@ -127,6 +159,22 @@ mod tests {
         writer.out[last] ^= 1;
         assert!(replay(&writer.out).is_err());
         assert!(replay(&writer.out[..last]).is_err());
+    }
+
+    #[test]
+    fn contents_that_stand_there_are_a_part() {
+        let mut writer = Writer::sharing();
+        writer.files(&sample::sample());
+        let one_fewer = {
+            let mut files = sample::sample();
+            files.body[crate::records::OPCODES].drain(..64);
+            files
+        };
+        let at = writer.out.len();
+        writer.files(&one_fewer);
+        assert_eq!(writer.out[at..], [16, 8, 0, 0, 0, 5 + 64, 0, 0, 0, 192, 2, 0, 0]);
+        writer.call(&Call::new(ask::TABLE_CHECK, &[])).unwrap();
+        assert_eq!(replay(&writer.out), Ok(1));
     }
 
     #[test]

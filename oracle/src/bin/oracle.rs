@@ -4,7 +4,7 @@ use oracle::ask::{ask, Call, DECODE_SMI_BYTES, FUNCTIONS, LISTING, NO_OBJECT};
 use oracle::checks;
 use oracle::port::{Port, STORE, TABLE};
 use oracle::records::Files;
-use oracle::{cases, sample, vectors};
+use oracle::{cases, recording, sample, vectors};
 use std::path::Path;
 use std::process::ExitCode;
 
@@ -15,6 +15,7 @@ const USAGE: &str = "usage:
   oracle functions                    the functions, their numbers and arguments
   oracle cases                        document 01's rows: what it says and what the Rust says
   oracle record OUT                   write the vectors of these rows
+  oracle record-store SEED OUT        write vectors of stores and tables, and count their classes
   oracle replay FILE                  ask every call of a vector file again";
 
 fn main() -> ExitCode {
@@ -31,6 +32,7 @@ fn main() -> ExitCode {
             Ok(same)
         }
         ["record", out] => record(out),
+        ["record-store", seed, out] => record_store(seed, out),
         ["replay", file] => replay(file),
         _ => Err(USAGE.into()),
     };
@@ -111,6 +113,19 @@ fn record(out: &str) -> Result<bool, String> {
     std::fs::write(out, &vectors.out).map_err(|e| format!("{out}: {e}"))?;
     println!("{} calls, {} bytes", vectors.calls, vectors.out.len());
     Ok(true)
+}
+
+fn record_store(seed: &str, out: &str) -> Result<bool, String> {
+    let recording = recording::record(word(seed)?)?;
+    let vectors = &recording.writer;
+    std::fs::write(out, &vectors.out).map_err(|e| format!("{out}: {e}"))?;
+    print!("{}", recording.classes.report());
+    let missing = recording.classes.missing();
+    for class in &missing {
+        println!("no case of {class}");
+    }
+    println!("{} calls, {} bytes", vectors.calls, vectors.out.len());
+    Ok(missing.is_empty())
 }
 
 fn replay(file: &str) -> Result<bool, String> {
