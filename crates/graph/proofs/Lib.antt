@@ -1,0 +1,11 @@
+pub mod Lists
+pub mod Levels
+pub mod Bound
+pub mod Findings
+pub mod Marks
+pub mod Answers
+pub mod Queues
+pub mod Steps
+pub mod Walks
+pub mod Scan
+pub mod Examples
