@@ -1,0 +1,37 @@
+-- Laws of the lines' texts. Assumes nothing.
+use Prim.Native.Nat.{ℕ, zero, suc, _+_, _-_, _<_, _≤_}
+use mathlib.Core.Path.{_≡_, refl}
+use mathlib.Core.Bool.{Bool}
+use mathlib.Core.List.{[], _++_}
+use native.Mathlib.Omega.{arith}
+use lib.IntN.{ℤ}
+use Rattle.laws.specs.Ascii.{ascii}
+use Rattle.tables.specs.declared.Frame.{Frame}
+use Rattle.decoder.specs.declared.Instr.{Instr}
+use Rattle.bytecode.specs.Texts.{NameFiles, operandText}
+use Rattle.serializer.specs.declared.Elem.{Elem}
+use Rattle.targets.specs.Targets.{operandOf, entryAt}
+use Rattle.targets.specs.declared.Entries.{Entries}
+use Rattle.lines.specs.Line.{before, operandsBy, entryText, shownAfter, entriesFrom}
+
+pub before-more : (k : ℕ) → (k ≡ 0 → ⊥) → before k ≡ ascii ", "
+before-more zero h = absurd (h refl)
+before-more (suc k) h = refl
+
+module _ (names : NameFiles) (frame : Frame) (params : ℤ) (i : Instr) (n k : ℕ) where
+  pub operands-next : k < n → operandsBy names frame params i k (n - k) ≡ before k ++ operandText names frame params (operandOf i k) ++ operandsBy names frame params i (k + 1) (n - (k + 1))
+  unfolding operandsBy
+  operands-next l = let e : n - k ≡ suc (n - (k + 1)) = omega arith in rw e
+
+  pub operands-end : n ≤ k → operandsBy names frame params i k (n - k) ≡ []
+  unfolding operandsBy
+  operands-end l = let e : n - k ≡ 0 = omega arith in rw e
+
+module _ (el : ℕ → Elem) (at : ℕ) (e : Entries) (shown : Bool) (n k : ℕ) where
+  pub entries-next : k < n → entriesFrom el at e shown k (n - k) ≡ entryText shown (entryAt el at e k) ++ entriesFrom el at e (shownAfter shown (entryAt el at e k)) (k + 1) (n - (k + 1))
+  unfolding entriesFrom
+  entries-next l = let z : n - k ≡ suc (n - (k + 1)) = omega arith in rw z
+
+  pub entries-end : n ≤ k → entriesFrom el at e shown k (n - k) ≡ []
+  unfolding entriesFrom
+  entries-end l = let z : n - k ≡ 0 = omega arith in rw z

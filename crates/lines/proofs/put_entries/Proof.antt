@@ -1,0 +1,83 @@
+use Prim.Native.Nat.{_-_, _≤_, _+_}
+use mathlib.Core.Path.{_≡_, refl, ap, _∙_}
+use mathlib.Core.Bool.{false}
+use native.Mathlib.Omega.{arith}
+use native.Mathlib.Nat.{sub-zero}
+use borrow.Author.Needs.{needs}
+use denote.Ref.{now}
+use Rattle.targets.specs.Targets.{poolSearched, entryAt}
+use Rattle.lines.specs.Line.{entriesFrom, entryText, shownAfter}
+use Rattle.lines.proofs.Written.{Written, written-none, written-more, written-all, written-kept}
+use Rattle.lines.proofs.Laws.{entries-next, entries-end}
+use Rattle.lines.proofs.put_entries.Statement.{statement}
+use Rattle.lines.proofs.put_entries.Tie as tie
+
+abbrev Inv-loop : tie.InvT-loop
+Inv-loop out₀ at slots payload ts pool here e n p₀ shown₀ k₀ out p shown k =
+    (k ≤ n) × (n ≡ e .count)
+    × Written out₀ at (entriesFrom (poolSearched slots payload ts pool) here e false 0 n) (entriesFrom (poolSearched slots payload ts pool) here e shown k (n - k)) out p
+
+abbrev μ-loop : tie.MeasureT-loop
+μ-loop out₀ at slots payload ts pool here e n p₀ shown₀ k₀ out p shown k = n - k
+
+plus-requires : tie.Need-plus-requires Inv-loop μ-loop
+plus-requires c κs = search needs
+
+loop-holds : tie.Need-loop-holds Inv-loop μ-loop
+loop-holds c = (omega arith, refl, rw sub-zero (written-none (now (c .before .before .before .before .args .out)) (c .before .before .before .before .args .at) _ (c .plus .ensures)))
+
+entry-at-requires : tie.Need-entry-at-requires Inv-loop μ-loop
+entry-at-requires c κs = search needs
+
+put-entry-requires : tie.Need-put-entry-requires Inv-loop μ-loop
+put-entry-requires c κs = search needs
+
+shown-after-requires : tie.Need-shown-after-requires Inv-loop μ-loop
+shown-after-requires c κs = search needs
+
+add-k : tie.Need-add-k Inv-loop μ-loop
+add-k c = search needs
+
+loop-less : tie.Need-loop-less Inv-loop μ-loop
+loop-less c = search needs
+
+loop-again : tie.Need-loop-again Inv-loop μ-loop
+loop-again c =
+    let a = c .before .before .before .before .before .before .before .before .before .before .before .before .args in
+    let l = c .before .before .before .before .before .before .before .loop in
+    let n = a .e .count in
+    let el = poolSearched (now (a .slots)) (now (a .payload)) (a .ts) (a .pool) in
+    let s = c .shown-after .ensures ∙ ap (shownAfter (l .shown)) (c .before .before .before .before .before .entry-at .ensures) in
+    let b = rw (c .before .before .before .before .before .entry-at .ensures) at (c .before .before .before .put-entry .ensures) in (
+      omega arith,
+      refl,
+      rw s (written-more (entryText (l .shown) (entryAt el (a .here) (a .e) (l .k))) (entriesFrom el (a .here) (a .e) (shownAfter (l .shown) (entryAt el (a .here) (a .e) (l .k))) (l .k + 1) (n - (l .k + 1)))
+          (omega (arith, c .before .before .before .before .before .before .before .before .before .before .before .before .good)) (entries-next el (a .here) (a .e) (l .shown) n (l .k) (c .before .before .before .before .before .before .loop-test .taken)) (l .inv .2) b),
+    )
+
+same-length : tie.Need-same-length Inv-loop μ-loop
+same-length c = written-kept (c .before .loop .inv .2)
+
+returns : tie.Need-returns Inv-loop μ-loop
+returns c =
+    let a = c .before .before .before .before .before .before .args in
+    let l = c .before .loop in
+    let el = poolSearched (now (a .slots)) (now (a .payload)) (a .ts) (a .pool) in
+    written-all (entries-end el (a .here) (a .e) (l .shown) (a .e .count) (l .k) (c .loop-test .left)) (l .inv .2)
+
+pub put-entries-spec : {M : Type 1} → statement M
+put-entries-spec =
+    tie.close
+    (tie.spec
+    Inv-loop
+    μ-loop
+    plus-requires
+    loop-holds
+    entry-at-requires
+    put-entry-requires
+    shown-after-requires
+    add-k
+    loop-less
+    loop-again
+    same-length
+    returns)

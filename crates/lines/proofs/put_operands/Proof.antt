@@ -1,0 +1,99 @@
+use Prim.Native.Nat.{_-_, _≤_, _+_, min}
+use mathlib.Core.Path.{_≡_}
+use mathlib.Core.List.{_++_}
+use native.Mathlib.Omega.{arith}
+use native.Mathlib.Nat.{sub-zero}
+use borrow.Author.Needs.{needs}
+use mir.Facts.{toZ-ofZ}
+use mir.Syntax.{w32}
+use mir.Val.{toZ, ofZ}
+use denote.Ref.{now}
+use Rattle.bytecode.specs.Texts.{NameFiles, operandText}
+use Rattle.targets.specs.Targets.{operandOf}
+use Rattle.lines.specs.Line.{before, operandsBy}
+use Rattle.text.proofs.Put.{then}
+use Rattle.lines.proofs.Written.{Written, written-none, written-more, written-all, written-kept}
+use Rattle.lines.proofs.Laws.{operands-next, operands-end}
+use Rattle.lines.proofs.put_operands.Statement.{statement}
+use Rattle.lines.proofs.put_operands.Tie as tie
+
+abbrev Inv-loop : tie.InvT-loop
+Inv-loop out₀ at types runtime intrinsic frame params instr n p₀ k₀ out p k =
+    (k ≤ n) × (n ≡ min (instr .count) 8)
+    × Written out₀ at (operandsBy (record { types = types; runtime = runtime; intrinsic = intrinsic }) frame (toZ w32 params) instr 0 n)
+    (operandsBy (record { types = types; runtime = runtime; intrinsic = intrinsic }) frame (toZ w32 params) instr k (n - k)) out p
+
+abbrev μ-loop : tie.MeasureT-loop
+μ-loop out₀ at types runtime intrinsic frame params instr n p₀ k₀ out p k = n - k
+
+least-requires : tie.Need-least-requires Inv-loop μ-loop
+least-requires c κs = search needs
+
+plus-requires : tie.Need-plus-requires Inv-loop μ-loop
+plus-requires c κs = search needs
+
+loop-holds : tie.Need-loop-holds Inv-loop μ-loop
+loop-holds c = (omega arith, c .before .least .ensures, rw sub-zero (written-none (now (c .before .before .before .before .before .before .args .out)) (c .before .before .before .before .before .before .args .at) _ (c .plus .ensures)))
+
+cast-operand-of : tie.Need-cast-operand-of Inv-loop μ-loop
+cast-operand-of c = search needs
+
+operand-of-requires : tie.Need-operand-of-requires Inv-loop μ-loop
+operand-of-requires c κs = search needs
+
+put-before-requires : tie.Need-put-before-requires Inv-loop μ-loop
+put-before-requires c κs = search needs
+
+render-operand-requires : tie.Need-render-operand-requires Inv-loop μ-loop
+render-operand-requires c κs = search needs
+
+add-k : tie.Need-add-k Inv-loop μ-loop
+add-k c = search needs
+
+loop-less : tie.Need-loop-less Inv-loop μ-loop
+loop-less c = search needs
+
+loop-again : tie.Need-loop-again Inv-loop μ-loop
+loop-again c =
+    let a = c .before .before .before .before .before .before .before .before .before .before .before .before .before .before .before .before .before .args in
+    let l = c .before .before .before .before .before .before .before .before .before .before .loop in
+    let n = c .before .before .before .before .before .before .before .before .before .before .before .before .least .result in
+    let names : NameFiles = record { types = now (a .types); runtime = now (a .runtime); intrinsic = now (a .intrinsic) } in
+    let r = rw (c .before .before .before .before .before .before .before .before .operand-of .ensures) at (c .before .before .render-operand .ensures) in
+    let u = before (l .k) ++ operandText names (a .frame) (toZ w32 (ofZ w32 (a .params))) (operandOf (a .instr) (l .k)) in (
+      omega arith,
+      l .inv .1,
+      written-more u (operandsBy names (a .frame) (toZ w32 (ofZ w32 (a .params))) (a .instr) (l .k + 1) (n - (l .k + 1))) (omega (arith, c .before .before .before .before .before .before .before .before .before .before .before .before .before .before .before .before .before .good))
+          (operands-next names (a .frame) (toZ w32 (ofZ w32 (a .params))) (a .instr) n (l .k) (c .before .before .before .before .before .before .before .before .before .loop-test .taken)) (l .inv .2) (then (omega (arith, c .before .before .before .before .before .before .before .before .before .before .before .before .before .before .before .before .before .good, written-kept (l .inv .2))) (c .before .before .before .before .before .before .put-before .ensures) r),
+    )
+
+same-length : tie.Need-same-length Inv-loop μ-loop
+same-length c = written-kept (c .before .loop .inv .2)
+
+returns : tie.Need-returns Inv-loop μ-loop
+returns c =
+    let a = c .before .before .before .before .before .before .before .before .args in
+    let l = c .before .loop in
+    let n = c .before .before .before .least .result in
+    let names : NameFiles = record { types = now (a .types); runtime = now (a .runtime); intrinsic = now (a .intrinsic) } in
+    let w = written-all (operands-end names (a .frame) (toZ w32 (ofZ w32 (a .params))) (a .instr) n (l .k) (c .loop-test .left)) (l .inv .2) in
+    rw (← l .inv .1) (simp (toZ-ofZ (c .before .before .before .before .before .before .before .before .fits .params)) at w)
+
+pub put-operands-spec : {M : Type 1} → statement M
+put-operands-spec =
+    tie.close
+    (tie.spec
+    Inv-loop
+    μ-loop
+    least-requires
+    plus-requires
+    loop-holds
+    cast-operand-of
+    operand-of-requires
+    put-before-requires
+    render-operand-requires
+    add-k
+    loop-less
+    loop-again
+    same-length
+    returns)

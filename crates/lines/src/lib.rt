@@ -1,0 +1,200 @@
+// One line of the listing, written into a lent part of the listing buffer.
+use decoder::Instr;
+use flow::Flow;
+use tables::Frame;
+use targets::Entries;
+use targets::Entry;
+use targets::Pool;
+use targets::Table;
+use targets::Target;
+ghost use mathlib.Core.Path.{_≡_};
+ghost use mathlib.Core.List.{[]};
+ghost use mathlib.Core.Bool.{cond, false};
+ghost use Rattle.laws.specs.Ascii.{ascii};
+ghost use Prim.Native.Nat.{_-_, min};
+ghost use Rattle.text.specs.Put.{Put};
+ghost use Rattle.targets.specs.Targets.{poolSearched, found};
+ghost use Rattle.lines.specs.Line.{View, before, operandsBy, placeText, targetText, entryText, shownAfter, entriesFrom, tableText, lineBy};
+
+// A line, from the start of the buffer it is lent: offset, bytes, name, operands, target and entries.
+pub fn put_line(
+    out: &mut [u8],
+    code: &[u8],
+    opcodes: &[u8],
+    types: &[u8],
+    runtime: &[u8],
+    intrinsic: &[u8],
+    slots: &[u8],
+    payload: &[u8],
+    ts: u8,
+    pool: Pool,
+    frame: Frame,
+    params: i32,
+    flow: Flow,
+    instr: Instr,
+) -> usize
+    ensures { λ r. ⌜ Put (now (out .entry)) 0 (lineBy (record { code = now (code .entry); opcodes = now (opcodes .entry); names = record { types = now (types .entry); runtime = now (runtime .entry); intrinsic = now (intrinsic .entry) }; frame = frame; params = params; pooled = found pool; elem = poolSearched (now (slots .entry)) (now (payload .entry)) ts pool }) flow instr) (now (out .exit)) r ⌝ }
+{
+    let p = put_place(out, code, instr);
+    let p = bytecode::instr_name(out, p, opcodes, instr.opcode, instr.scale);
+    let p = put_operands(out, p, types, runtime, intrinsic, frame, params, instr);
+    let target = targets::jump_target(slots, payload, ts, pool, flow, instr);
+    let p = put_target(out, p, target);
+    let table = targets::jump_table(pool, flow, instr);
+    let at = targets::here(instr);
+    let p = put_table(out, p, slots, payload, ts, pool, at, table);
+    text::put_byte(out, p, b'\n')
+}
+
+// The offset and the bytes of an instruction.
+fn put_place(out: &mut [u8], code: &[u8], instr: Instr) -> usize
+    ensures { λ r. ⌜ Put (now (out .entry)) 0 (placeText (now (code .entry)) instr) (now (out .exit)) r ⌝ }
+{
+    let start = instr.offset;
+    let bytes = serializer::lent(code, start, size_of(instr));
+    let p = text::put_spaces(out, 0, 10);
+    let p = text::put_bytes(out, p, b" @ ");
+    let p = text::put_decimal_padded(out, p, start as u64, 4);
+    let p = text::put_bytes(out, p, b" : ");
+    let p = text::put_hex_padded(out, p, bytes, 18);
+    text::put_byte(out, p, b' ')
+}
+
+// How many bytes an instruction takes.
+fn size_of(instr: Instr) -> usize
+    ensures { λ r. ⌜ r ≡ instr .end - instr .offset ⌝ }
+{
+    let start = instr.offset;
+    let end = instr.end;
+    if start < end { end - start } else { 0 }
+}
+
+fn put_operands(
+    out: &mut [u8],
+    at: usize,
+    types: &[u8],
+    runtime: &[u8],
+    intrinsic: &[u8],
+    frame: Frame,
+    params: i32,
+    instr: Instr,
+) -> usize
+    ensures { λ r. ⌜ Put (now (out .entry)) at (operandsBy (record { types = now (types .entry); runtime = now (runtime .entry); intrinsic = now (intrinsic .entry) }) frame params instr 0 (min (instr .count) 8)) (now (out .exit)) r ⌝ }
+{
+    let n = text::least(instr.count, 8);
+    let mut p = text::plus(at, 0);
+    let mut k: usize = 0;
+    while k < n {
+        let op = targets::operand_of(instr, k as u8);
+        p = put_before(out, p, k);
+        p = bytecode::render_operand(out, p, types, runtime, intrinsic, frame, params, op);
+        k += 1;
+    }
+    p
+}
+
+// What stands in front of operand k.
+fn put_before(out: &mut [u8], at: usize, k: usize) -> usize
+    ensures { λ r. ⌜ Put (now (out .entry)) at (before k) (now (out .exit)) r ⌝ }
+{
+    if k == 0 {
+        text::put_byte(out, at, b' ')
+    } else {
+        text::put_bytes(out, at, b", ")
+    }
+}
+
+fn put_target(out: &mut [u8], at: usize, target: Target) -> usize
+    ensures { λ r. ⌜ Put (now (out .entry)) at (targetText target) (now (out .exit)) r ⌝ }
+{
+    match target {
+        Target::At(t) => {
+            let p = text::put_bytes(out, at, b" (jscd @ ");
+            let p = text::put_decimal(out, p, t);
+            text::put_byte(out, p, b')')
+        }
+        Target::Nothing => text::plus(at, 0),
+    }
+}
+
+fn put_table(
+    out: &mut [u8],
+    at: usize,
+    slots: &[u8],
+    payload: &[u8],
+    ts: u8,
+    pool: Pool,
+    here: u64,
+    table: Table,
+) -> usize
+    ensures { λ r. ⌜ Put (now (out .entry)) at (tableText (poolSearched (now (slots .entry)) (now (payload .entry)) ts pool) here table) (now (out .exit)) r ⌝ }
+{
+    match table {
+        Table::Nothing => text::plus(at, 0),
+        Table::Refused => text::plus(at, 0),
+        Table::At(e) => {
+            let p = text::put_bytes(out, at, b" {");
+            let p = put_entries(out, p, slots, payload, ts, pool, here, e);
+            text::put_bytes(out, p, b" }")
+        }
+    }
+}
+
+fn put_entries(
+    out: &mut [u8],
+    at: usize,
+    slots: &[u8],
+    payload: &[u8],
+    ts: u8,
+    pool: Pool,
+    here: u64,
+    e: Entries,
+) -> usize
+    ensures { λ r. ⌜ Put (now (out .entry)) at (entriesFrom (poolSearched (now (slots .entry)) (now (payload .entry)) ts pool) here e false 0 (e .count)) (now (out .exit)) r ⌝ }
+{
+    let n = e.count;
+    let mut p = text::plus(at, 0);
+    let mut shown = false;
+    let mut k: u16 = 0;
+    while k < n {
+        let entry = targets::entry_at(slots, payload, ts, pool, here, e, k);
+        p = put_entry(out, p, shown, entry);
+        shown = shown_after(shown, entry);
+        k += 1;
+    }
+    p
+}
+
+fn put_entry(out: &mut [u8], at: usize, shown: bool, entry: Entry) -> usize
+    ensures { λ r. ⌜ Put (now (out .entry)) at (entryText shown entry) (now (out .exit)) r ⌝ }
+{
+    match entry {
+        Entry::Skipped => text::plus(at, 0),
+        Entry::Shown { case, target } => {
+            let p = put_comma(out, at, shown);
+            let p = text::put_byte(out, p, b' ');
+            let p = text::put_signed32(out, p, case);
+            let p = text::put_bytes(out, p, b": @");
+            text::put_decimal(out, p, target)
+        }
+    }
+}
+
+fn put_comma(out: &mut [u8], at: usize, shown: bool) -> usize
+    ensures { λ r. ⌜ Put (now (out .entry)) at (cond shown (ascii ",") []) (now (out .exit)) r ⌝ }
+{
+    if shown {
+        text::put_byte(out, at, b',')
+    } else {
+        text::plus(at, 0)
+    }
+}
+
+fn shown_after(shown: bool, entry: Entry) -> bool
+    ensures { λ r. ⌜ r ≡ shownAfter shown entry ⌝ }
+{
+    match entry {
+        Entry::Shown { case: _, target: _ } => true,
+        Entry::Skipped => shown,
+    }
+}
