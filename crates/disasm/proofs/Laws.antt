@@ -1,0 +1,65 @@
+-- Laws of the listing: what a pass says of the answer. Assumes nothing.
+use Prim.Native.Nat.{ℕ, _<_, _≤_, _^_}
+use mathlib.Core.Path.{_≡_, refl, sym, ap, _∙_}
+use mathlib.Core.List.{List, [], _∷_, _++_}
+use native.Mathlib.Omega.{arith}
+use borrow.Author.Tests.{le-leb, lt-leb}
+use types.Run.{OneOf, miss}
+use denote.Enum.Declared.{tagOf}
+use lib.ListN.{length}
+use Rattle.refusal.specs.declared.Refusal.{Refusal}
+use Rattle.refusal.specs.declared.Check.{Check}
+use Rattle.refusal.specs.declared.Check.the-variants.{Ok, Refused}
+use Rattle.refusal.specs.Check.{refusalAt, orElse}
+use Rattle.text.proofs.Put.{fits-then, refused-then}
+use Rattle.store.specs.declared.SlotValue.{SlotValue}
+use Rattle.header.specs.declared.Header.{Header}
+use Rattle.decoder.specs.Listed.{Listing}
+use Rattle.lines.specs.Line.{View}
+use Rattle.disasm.specs.declared.Pass.{Pass}
+use Rattle.disasm.specs.Lines.{codeCheck}
+use Rattle.disasm.specs.Listing.{poolBy, listView, ListedAs, Whole}
+use Rattle.store.proofs.SlotValue as value-type
+use Rattle.store.specs.declared.SlotValue.the-variants as value
+use Rattle.serializer.specs.declared.SlotAt.the-variants as slot-at
+use Rattle.targets.specs.declared.Pool.the-variants as pool
+use Rattle.disasm.specs.declared.Listed.the-variants as listed-as
+
+pub not-object : (objects : List ℕ) (v : SlotValue) → OneOf (0 ∷ 2 ∷ 3 ∷ 4 ∷ 5 ∷ []) (tagOf value-type.the-type v) → pool.Nothing ≡ poolBy objects (slot-at.At v)
+unfolding poolBy
+not-object objects value.Other h = refl
+not-object objects (value.Object n) h = absurd (miss (0 ∷ 2 ∷ 3 ∷ 4 ∷ 5 ∷ []) 1 tt h)
+not-object objects value.Root h = refl
+not-object objects value.OtherRef h = refl
+not-object objects (value.Raw r) h = refl
+not-object objects (value.Repeat r) h = refl
+
+none-of : (u : List ℕ) → length u ≡ 0 → u ≡ []
+none-of [] h = refl
+none-of (x ∷ u) h = absurd (omega arith)
+
+or-first : (a b : Check) → orElse a b ≡ Ok → a ≡ Ok
+or-first Ok b h = refl
+or-first (Refused r) b h = h
+
+module _ (v : View) (h : Header) (l : Listing) (o : List ℕ) (small : length o < 2 ^ 63) {u : List ℕ} {m : Pass} (w : Whole v h l [] u m) where
+  -- refused before anything is written
+  pub pass-refused : (r : Refusal) → m .check ≡ Refused r → ListedAs (listView v h l o) (listed-as.Refused r) (u ++ o)
+  unfolding listView
+  pass-refused r e = rw (sym (w .checked) ∙ e) (refl, ap (λ (x : List ℕ). x ++ o) (none-of u (w .kept)))
+
+  module _ (ok : m .check ≡ Ok) where
+    fine : codeCheck (l .outcome) ≡ Ok
+    fine = or-first (codeCheck (l .outcome)) _ (sym (w .checked) ∙ ok)
+
+    pub pass-short : length (u ++ o) < m .place → ListedAs (listView v h l o) (listed-as.Refused (refusalAt 17 0)) (u ++ o)
+    unfolding listView
+    pass-short s =
+        let q = refused-then o small (w .written fine) s in
+        rw (sym (w .checked) ∙ ok, lt-leb _ _ (q .0)) (refl, q .1)
+
+    pub pass-fits : {o′ : List ℕ} {n : Pass} → m .place ≤ length (u ++ o) → Whole v h l (u ++ o) o′ n → ListedAs (listView v h l o) (listed-as.Done (n .place)) o′
+    unfolding listView
+    pass-fits s x =
+        let q = fits-then o small (w .written fine) s (x .written fine) in
+        rw (sym (w .checked) ∙ ok, le-leb _ _ (q .0)) (ap listed-as.Done (q .2), q .1)

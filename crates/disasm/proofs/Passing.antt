@@ -1,0 +1,130 @@
+-- A pass over the instructions of a code: what holds at each of them, and what its end says. Assumes nothing.
+use Prim.Native.Nat.{ℕ, suc, _+_, _-_, _<_, _≤_, _^_}
+use mathlib.Core.Path.{_≡_, refl, sym, ap, subst, _∙_}
+use mathlib.Core.List.{List}
+use native.Mathlib.Omega.{arith}
+use lib.ListN.{length}
+use Rattle.refusal.specs.declared.Refusal.{Refusal}
+use Rattle.refusal.specs.declared.Check.{Check}
+use Rattle.refusal.specs.declared.Check.the-variants.{Ok, Refused}
+use Rattle.refusal.specs.Check.{orElse}
+use Rattle.text.specs.Put.{Put, place}
+use Rattle.decoder.specs.declared.Outcome.{Outcome}
+use Rattle.decoder.specs.declared.Decoded.{Decoded}
+use Rattle.decoder.specs.Listed.{Listing, listFrom}
+use Rattle.decoder.proofs.Listed.{list-done, list-end, list-refused}
+use Rattle.flow.specs.Flow.{flowOf}
+use lib.IntN.{ℤ}
+use Rattle.tables.specs.declared.Frame.{Frame}
+use Rattle.targets.specs.declared.Pool.{Pool}
+use Rattle.targets.specs.Targets.{jumpTable, found, poolSearched}
+use Rattle.lines.specs.Line.{View, lineText}
+use Rattle.lines.proofs.Written.{Written, written-none, written-more, written-all, written-kept}
+use Rattle.disasm.specs.Lines.{linesText, tableCheck, switchCheck, codeCheck, Passed}
+
+or-none : (a : Check) → orElse a Ok ≡ a
+or-none Ok = refl
+or-none (Refused r) = refl
+
+or-assoc : (a b c : Check) → orElse (orElse a b) c ≡ orElse a (orElse b c)
+or-assoc Ok b c = refl
+or-assoc (Refused r) b c = refl
+
+module _ (v : View) (d : ℕ → Decoded) (len : ℕ) where
+  abbrev pub allOf : Listing
+  allOf = listFrom d (suc len) 0
+
+  abbrev pub restOf : ℕ → ℕ → Listing
+  restOf n i = listFrom d (suc len - n) i
+
+  -- n instructions are passed, up to place i of the code
+  pub record Passing (o : List ℕ) (p₀ : ℕ) (o′ : List ℕ) (p : ℕ) (check : Check) (i : ℕ) : Type 0 where
+    pub passed : ℕ
+    pub few : passed ≤ i
+    pub inside : i ≤ len
+    pub outcome : allOf .outcome ≡ restOf passed i .outcome
+    pub switches : switchCheck v (allOf .instrs) ≡ orElse check (switchCheck v (restOf passed i .instrs))
+    pub lines : Written o p₀ (linesText v (allOf .instrs)) (linesText v (restOf passed i .instrs)) o′ p
+
+  pub passing-start : (o : List ℕ) (p : ℕ) {r : ℕ} → r ≡ place (p + 0) → Passing o p o r Ok 0
+  passing-start o p e =
+      let z : suc len - 0 ≡ suc len = omega arith in
+      record { passed = 0; few = omega arith; inside = omega arith; outcome = rw z; switches = rw z; lines = rw z (written-none o p _ e) }
+
+  module _ {o o′ : List ℕ} {p₀ p i : ℕ} {check : Check} (h : length o ≤ 2 ^ 63) (s : Passing o p₀ o′ p check i) where
+    fuel : suc len - s .passed ≡ suc (len - s .passed)
+    fuel = omega (arith, s .few, s .inside)
+
+    -- what is left, by what is decoded at i
+    rest-is : {l : Listing} → listFrom d (suc (len - s .passed)) i ≡ l → restOf (s .passed) i ≡ l
+    rest-is e = ap (λ (f : ℕ). listFrom d f i) fuel ∙ e
+
+    pub passing-refused : (r : Refusal) → d i .outcome ≡ Outcome.Refused r → Passed v allOf o p₀ o′ (record { check = Refused r; place = p })
+    passing-refused r e =
+        let f = s .outcome ∙ ap (λ (l : Listing). l .outcome) (rest-is (list-refused d (len - s .passed) i r e)) in
+        record {
+          checked = sym (ap (λ (x : Outcome). orElse (codeCheck x) (switchCheck v (allOf .instrs))) f);
+          written = λ ok. absurd (never r (sym (ap codeCheck f) ∙ ok));
+          kept = written-kept (s .lines);
+        }
+      where
+        never : (r : Refusal) → Refused r ≡ Ok → ⊥
+        never r e = let z : _≡_ {A = ℕ} 0 1 = cc in omega arith
+
+    pub passing-end : d i .outcome ≡ Outcome.End → Passed v allOf o p₀ o′ (record { check = check; place = p })
+    unfolding switchCheck linesText
+    passing-end e =
+        let rest = rest-is (list-end d (len - s .passed) i e) in
+        let f = s .outcome ∙ ap (λ (l : Listing). l .outcome) rest in
+        let g = s .switches ∙ ap (λ (l : Listing). orElse check (switchCheck v (l .instrs))) rest ∙ or-none check in
+        record {
+          checked = sym (ap (λ (x : Outcome). orElse (codeCheck x) (switchCheck v (allOf .instrs))) f ∙ g);
+          written = λ ok. written-all (ap (λ (l : Listing). linesText v (l .instrs)) rest) (s .lines);
+          kept = written-kept (s .lines);
+        }
+
+    pub passing-done : (c′ : Check) {o″ : List ℕ} {p′ : ℕ} → d i .outcome ≡ Outcome.Done → i < d i .instr .end → d i .instr .end ≤ len
+        → c′ ≡ orElse check (tableCheck (jumpTable (v .pooled) (flowOf (v .opcodes) (d i .instr .opcode)) (d i .instr)) (d i .instr .offset))
+        → Put o′ p (lineText v (d i .instr)) o″ p′ → Passing o p₀ o″ p′ c′ (d i .instr .end)
+    unfolding switchCheck linesText
+    passing-done c′ e low high is put =
+        let rest = rest-is (list-done d (len - s .passed) i e) in
+        let next : suc len - suc (s .passed) ≡ len - s .passed = omega arith in
+        let t = tableCheck (jumpTable (v .pooled) (flowOf (v .opcodes) (d i .instr .opcode)) (d i .instr)) (d i .instr .offset) in
+        let r = listFrom d (len - s .passed) (d i .instr .end) in
+        record {
+          passed = suc (s .passed);
+          few = omega (arith, s .few);
+          inside = high;
+          outcome = rw next (s .outcome ∙ ap (λ (l : Listing). l .outcome) rest);
+          switches = rw (next, is) (s .switches ∙ ap (λ (l : Listing). orElse check (switchCheck v (l .instrs))) rest ∙ sym (or-assoc check t (switchCheck v (r .instrs))));
+          lines = rw next (written-more (lineText v (d i .instr)) (linesText v (r .instrs)) h (ap (λ (l : Listing). linesText v (l .instrs)) rest) (s .lines) put);
+        }
+
+-- ---- the same, of what a call gave: x is what was decoded at i
+module _ (v : View) (d : ℕ → Decoded) (len : ℕ) {o o′ : List ℕ} {p₀ p i : ℕ} {check : Check} (h : length o ≤ 2 ^ 63) (s : Passing v d len o p₀ o′ p check i) (x : Decoded) (is : x ≡ d i) where
+  pub done-at : (c′ : Check) {o″ : List ℕ} {p′ : ℕ} → x .outcome ≡ Outcome.Done → i < x .instr .end → x .instr .end ≤ len
+      → c′ ≡ orElse check (tableCheck (jumpTable (v .pooled) (flowOf (v .opcodes) (x .instr .opcode)) (x .instr)) (x .instr .offset))
+      → Put o′ p (lineText v (x .instr)) o″ p′ → Passing v d len o p₀ o″ p′ c′ (x .instr .end)
+  done-at c′ {o″} {p′} =
+      subst (λ (y : Decoded). y .outcome ≡ Outcome.Done → i < y .instr .end → y .instr .end ≤ len
+      → c′ ≡ orElse check (tableCheck (jumpTable (v .pooled) (flowOf (v .opcodes) (y .instr .opcode)) (y .instr)) (y .instr .offset))
+      → Put o′ p (lineText v (y .instr)) o″ p′ → Passing v d len o p₀ o″ p′ c′ (y .instr .end)) (sym is) (passing-done v d len h s c′)
+
+  pub refused-at : (r : Refusal) → x .outcome ≡ Outcome.Refused r → Passed v (allOf v d len) o p₀ o′ (record { check = Refused r; place = p })
+  refused-at r e = passing-refused v d len h s r (ap (λ (y : Decoded). y .outcome) (sym is) ∙ e)
+
+  pub end-at : x .outcome ≡ Outcome.End → Passed v (allOf v d len) o p₀ o′ (record { check = check; place = p })
+  end-at e = passing-end v d len h s (ap (λ (y : Decoded). y .outcome) (sym is) ∙ e)
+
+-- what a function's lines are made from, of the lent files
+abbrev pub viewOf : List ℕ → List ℕ → List ℕ → List ℕ → List ℕ → Frame → ℤ → List ℕ → List ℕ → ℕ → Pool → View
+viewOf code ops types runtime intrinsic frame params slots payload ts pool = record {
+  code = code;
+  opcodes = ops;
+  names = record { types = types; runtime = runtime; intrinsic = intrinsic };
+  frame = frame;
+  params = params;
+  pooled = found pool;
+  elem = poolSearched slots payload ts pool;
+}

@@ -1,0 +1,414 @@
+// The listing of a function: its header counts and its instruction lines.
+
+use decoder::Outcome;
+use header::Header;
+use header::HeaderAt;
+use refusal::Check;
+use refusal::Refusal;
+use serializer::SlotAt;
+use store::Object;
+use store::SlotValue;
+use tables::Frame;
+use tables::Layout;
+use targets::Pool;
+use targets::PoolSlots;
+use targets::Table;
+ghost use mathlib.Core.Path.{_≡_};
+ghost use Prim.Native.Nat.{suc};
+ghost use Rattle.refusal.specs.Check.{orElse};
+ghost use Rattle.text.specs.Put.{Put};
+ghost use Rattle.decoder.specs.Listed.{listFrom};
+ghost use Rattle.decoder.specs.Decode.{decodeAt};
+ghost use lib.ListN.{length};
+ghost use Rattle.flow.specs.Flow.{Numbered};
+ghost use Rattle.targets.specs.Targets.{poolSearched, found};
+ghost use Rattle.lines.specs.Line.{lineText};
+ghost use Rattle.disasm.specs.Lines.{tableCheck, Passed};
+ghost use Rattle.disasm.specs.Listing.{headerText, poolBy, listView, listWith, ListedAs, Whole, checkFiles, listSearched, listCall};
+
+// The answer to a request for a listing: its length, or a refusal.
+pub enum Listed {
+    Done(usize),
+    Refused(Refusal),
+}
+
+// What one pass over the instructions answers: the checks of 11 to 16, and the place behind the lines.
+pub struct Pass {
+    pub check: Check,
+    pub place: usize,
+}
+
+// The listing of an object, a BytecodeArray, from the start of the buffer on. Rows 1 to 9 and 11 to 17; after a refusal the buffer is as
+// it was.
+pub fn list(
+    out: &mut [u8],
+    opcodes: &[u8],
+    types: &[u8],
+    runtime: &[u8],
+    intrinsic: &[u8],
+    layout: &[u8],
+    objects: &[u8],
+    slots: &[u8],
+    payload: &[u8],
+    object: usize,
+) -> Listed
+    ensures { λ r. ⌜ ListedAs (listCall (record { opcodes = now (opcodes .entry); types = now (types .entry); runtime = now (runtime .entry); intrinsic = now (intrinsic .entry); layout = now (layout .entry); objects = now (objects .entry); slots = now (slots .entry); payload = now (payload .entry) }) object (now (out .entry))) r (now (out .exit)) ⌝ }
+{
+    let check = check_files(
+        opcodes,
+        types,
+        runtime,
+        intrinsic,
+        layout,
+        objects,
+        slots,
+        payload,
+        object,
+    );
+    match check {
+        Check::Refused(refusal) => Listed::Refused(refusal),
+        Check::Ok => list_object(
+            out,
+            opcodes,
+            types,
+            runtime,
+            intrinsic,
+            layout,
+            objects,
+            slots,
+            payload,
+            store::object_of(objects, object),
+        ),
+    }
+}
+
+// Rows 1 to 8.
+fn check_files(
+    opcodes: &[u8],
+    types: &[u8],
+    runtime: &[u8],
+    intrinsic: &[u8],
+    layout: &[u8],
+    objects: &[u8],
+    slots: &[u8],
+    payload: &[u8],
+    object: usize,
+) -> Check
+    ensures { λ r. ⌜ r ≡ checkFiles (record { opcodes = now (opcodes .entry); types = now (types .entry); runtime = now (runtime .entry); intrinsic = now (intrinsic .entry); layout = now (layout .entry); objects = now (objects .entry); slots = now (slots .entry); payload = now (payload .entry) }) object ⌝ }
+{
+    let table = tables::check_table(opcodes, types, runtime, intrinsic, layout);
+    let files = refusal::or_else(
+        store::check_store(objects, slots, payload),
+        store::check_code_object(objects, object),
+    );
+    refusal::or_else(table, files)
+}
+
+// The listing of an object whose files are good.
+fn list_object(
+    out: &mut [u8],
+    opcodes: &[u8],
+    types: &[u8],
+    runtime: &[u8],
+    intrinsic: &[u8],
+    layout: &[u8],
+    objects: &[u8],
+    slots: &[u8],
+    payload: &[u8],
+    object: Object,
+) -> Listed
+    ensures { λ r. ⌜ ListedAs (listSearched (record { opcodes = now (opcodes .entry); types = now (types .entry); runtime = now (runtime .entry); intrinsic = now (intrinsic .entry); layout = now (layout .entry); objects = now (objects .entry); slots = now (slots .entry); payload = now (payload .entry) }) object (now (out .entry))) r (now (out .exit)) ⌝ }
+{
+    let shape = tables::layout_of(layout);
+    match header::header_of(slots, payload, object, shape) {
+        HeaderAt::Refused(refusal) => Listed::Refused(refusal),
+        HeaderAt::At(h) => {
+            let pool = pool_by(
+                objects,
+                serializer::find_slot(slots, object.first, object.count, shape.pool_slot as u64),
+            );
+            list_header(
+                out,
+                opcodes,
+                types,
+                runtime,
+                intrinsic,
+                slots,
+                payload,
+                shape,
+                pool,
+                h,
+            )
+        }
+    }
+}
+
+// The pool that a slot refers to.
+fn pool_by(objects: &[u8], found: SlotAt) -> Pool
+    ensures { λ r. ⌜ r ≡ poolBy (now (objects .entry)) found ⌝ }
+{
+    let SlotAt::At(value) = found else {
+        return Pool::Nothing;
+    };
+    let SlotValue::Object(n) = value else {
+        return Pool::Nothing;
+    };
+    let object = store::object_of(objects, n as usize);
+    Pool::At(PoolSlots {
+        first: object.first,
+        count: object.count,
+    })
+}
+
+// The listing of a header and its code.
+fn list_header(
+    out: &mut [u8],
+    opcodes: &[u8],
+    types: &[u8],
+    runtime: &[u8],
+    intrinsic: &[u8],
+    slots: &[u8],
+    payload: &[u8],
+    shape: Layout,
+    pool: Pool,
+    h: Header,
+) -> Listed
+    ensures { λ r. ⌜ ListedAs (listWith (now (opcodes .entry)) (now (types .entry)) (now (runtime .entry)) (now (intrinsic .entry)) (now (slots .entry)) (now (payload .entry)) shape pool h (now (out .entry))) r (now (out .exit)) ⌝ }
+{
+    let start = h.code_at;
+    let size = h.code_len;
+    let code = serializer::lent(payload, start, size);
+    let prefixes = tables::prefix_ops(opcodes);
+    let flows = flow::flow_numbers(opcodes);
+    let frame = shape.frame;
+    list_code(
+        out,
+        code,
+        opcodes,
+        types,
+        runtime,
+        intrinsic,
+        slots,
+        payload,
+        &flows,
+        shape.tagged_size,
+        pool,
+        frame,
+        h,
+        prefixes.wide as usize,
+        prefixes.extra_wide as usize,
+    )
+}
+
+// Measured first, with 11 to 16; then 17; then written.
+fn list_code(
+    out: &mut [u8],
+    code: &[u8],
+    opcodes: &[u8],
+    types: &[u8],
+    runtime: &[u8],
+    intrinsic: &[u8],
+    slots: &[u8],
+    payload: &[u8],
+    flows: &[u8],
+    ts: u8,
+    pool: Pool,
+    frame: Frame,
+    h: Header,
+    wide: usize,
+    extra: usize,
+) -> Listed
+    requires { ⌜ Numbered (now opcodes) (now flows) 256 ⌝ }
+    ensures { λ r. ⌜ ListedAs (listView (record { code = now (code .entry); opcodes = now (opcodes .entry); names = record { types = now (types .entry); runtime = now (runtime .entry); intrinsic = now (intrinsic .entry) }; frame = frame; params = h .«parameter_count»; pooled = found pool; elem = poolSearched (now (slots .entry)) (now (payload .entry)) ts pool }) h (listFrom (λ i. decodeAt (now (code .entry)) (now (opcodes .entry)) (now (types .entry)) i (frame .«reg_file_start») wide extra) (suc (length (now (code .entry)))) 0) (now (out .entry))) r (now (out .exit)) ⌝ }
+{
+    let measured = put_all(
+        &mut out[0..0],
+        code,
+        opcodes,
+        types,
+        runtime,
+        intrinsic,
+        slots,
+        payload,
+        flows,
+        ts,
+        pool,
+        frame,
+        h,
+        wide,
+        extra,
+    );
+    let check = measured.check;
+    let size = measured.place;
+    match check {
+        Check::Refused(refusal) => Listed::Refused(refusal),
+        Check::Ok => {
+            if size <= out.len() {
+                let written = put_all(
+                    out,
+                    code,
+                    opcodes,
+                    types,
+                    runtime,
+                    intrinsic,
+                    slots,
+                    payload,
+                    flows,
+                    ts,
+                    pool,
+                    frame,
+                    h,
+                    wide,
+                    extra,
+                );
+                Listed::Done(written.place)
+            } else {
+                Listed::Refused(Refusal {
+                    number: 17,
+                    place: 0,
+                })
+            }
+        }
+    }
+}
+
+// The header and the lines.
+fn put_all(
+    out: &mut [u8],
+    code: &[u8],
+    opcodes: &[u8],
+    types: &[u8],
+    runtime: &[u8],
+    intrinsic: &[u8],
+    slots: &[u8],
+    payload: &[u8],
+    flows: &[u8],
+    ts: u8,
+    pool: Pool,
+    frame: Frame,
+    h: Header,
+    wide: usize,
+    extra: usize,
+) -> Pass
+    requires { ⌜ Numbered (now opcodes) (now flows) 256 ⌝ }
+    ensures { λ r. ⌜ Whole (record { code = now (code .entry); opcodes = now (opcodes .entry); names = record { types = now (types .entry); runtime = now (runtime .entry); intrinsic = now (intrinsic .entry) }; frame = frame; params = h .«parameter_count»; pooled = found pool; elem = poolSearched (now (slots .entry)) (now (payload .entry)) ts pool }) h (listFrom (λ i. decodeAt (now (code .entry)) (now (opcodes .entry)) (now (types .entry)) i (frame .«reg_file_start») wide extra) (suc (length (now (code .entry)))) 0) (now (out .entry)) (now (out .exit)) r ⌝ }
+{
+    let p = put_header(out, 0, h);
+    put_lines(
+        out,
+        p,
+        code,
+        opcodes,
+        types,
+        runtime,
+        intrinsic,
+        slots,
+        payload,
+        flows,
+        ts,
+        pool,
+        frame,
+        h.parameter_count,
+        wide,
+        extra,
+    )
+}
+
+fn put_header(out: &mut [u8], at: usize, h: Header) -> usize
+    ensures { λ r. ⌜ Put (now (out .entry)) at (headerText h) (now (out .exit)) r ⌝ }
+{
+    let p = text::put_bytes(out, at, b"Bytecode length: ");
+    let p = text::put_decimal(out, p, h.length as u64);
+    let p = text::put_bytes(out, p, b"\nParameter count ");
+    let p = text::put_signed32(out, p, h.parameter_count);
+    let p = text::put_bytes(out, p, b"\nRegister count ");
+    let p = text::put_decimal(out, p, h.register_count as u64);
+    let p = text::put_bytes(out, p, b"\nFrame size ");
+    let p = text::put_decimal(out, p, h.frame_size as u64);
+    let p = text::put_bytes(out, p, b"\nOSR nesting level: ");
+    let p = text::put_decimal(out, p, h.osr as u64);
+    let p = text::put_bytes(out, p, b"\nBytecode Age: ");
+    let p = text::put_decimal(out, p, h.age as u64);
+    text::put_byte(out, p, b'\n')
+}
+
+// The lines of all instructions from place at of the buffer on. On an empty buffer it measures.
+fn put_lines(
+    out: &mut [u8],
+    at: usize,
+    code: &[u8],
+    opcodes: &[u8],
+    types: &[u8],
+    runtime: &[u8],
+    intrinsic: &[u8],
+    slots: &[u8],
+    payload: &[u8],
+    flows: &[u8],
+    ts: u8,
+    pool: Pool,
+    frame: Frame,
+    params: i32,
+    wide: usize,
+    extra: usize,
+) -> Pass
+    requires { ⌜ Numbered (now opcodes) (now flows) 256 ⌝ }
+    ensures { λ r. ⌜ Passed (record { code = now (code .entry); opcodes = now (opcodes .entry); names = record { types = now (types .entry); runtime = now (runtime .entry); intrinsic = now (intrinsic .entry) }; frame = frame; params = params; pooled = found pool; elem = poolSearched (now (slots .entry)) (now (payload .entry)) ts pool }) (listFrom (λ i. decodeAt (now (code .entry)) (now (opcodes .entry)) (now (types .entry)) i (frame .«reg_file_start») wide extra) (suc (length (now (code .entry)))) 0) (now (out .entry)) at (now (out .exit)) r ⌝ }
+{
+    let rfs = frame.reg_file_start;
+    let mut p = text::plus(at, 0);
+    let mut check = Check::Ok;
+    let mut i: usize = 0;
+    while i < code.len() {
+        let d = decoder::decode_at(code, opcodes, types, i, rfs, wide, extra);
+        let outcome = d.outcome;
+        let instr = d.instr;
+        match outcome {
+            Outcome::Refused(refusal) => {
+                return Pass {
+                    check: Check::Refused(refusal),
+                    place: p,
+                };
+            }
+            Outcome::End => return Pass { check, place: p },
+            Outcome::Done => {
+                let flow = flow::flow_by(words::byte_at(flows, instr.opcode as usize));
+                let table = targets::jump_table(pool, flow, instr);
+                check = refusal::or_else(check, table_check(table, instr.offset));
+                let q = text::least(p, out.len());
+                let w = lines::put_line(
+                    &mut out[q..],
+                    code,
+                    opcodes,
+                    types,
+                    runtime,
+                    intrinsic,
+                    slots,
+                    payload,
+                    ts,
+                    pool,
+                    frame,
+                    params,
+                    flow,
+                    instr,
+                );
+                p = text::plus(p, w);
+                i = instr.end;
+            }
+        }
+    }
+    Pass { check, place: p }
+}
+
+// Number 16 at the instruction's start.
+fn table_check(table: Table, at: usize) -> Check
+    ensures { λ r. ⌜ r ≡ tableCheck table at ⌝ }
+{
+    match table {
+        Table::Nothing => Check::Ok,
+        Table::At(_) => Check::Ok,
+        Table::Refused => Check::Refused(Refusal {
+            number: 16,
+            place: at,
+        }),
+    }
+}

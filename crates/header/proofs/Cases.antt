@@ -1,0 +1,126 @@
+-- 01's sample object, and objects that differ from it in one point, by computing. Assumes nothing.
+use Prim.Native.Nat.{ℕ, _-_, _/_, _%_, _^_}
+use mathlib.Core.Path.{_≡_, refl}
+use mathlib.Core.Bool.{Bool, true, false}
+use mathlib.Core.List.{List, [], _∷_, _++_}
+use lib.IntN.{pos}
+use lib.ListN.{replicate}
+use Rattle.laws.specs.Scan.{firstFrom}
+use Rattle.words.specs.Le.{leAt}
+use Rattle.words.specs.Signed.{modulo}
+use Rattle.store.specs.Records.{slotOf, objectOf}
+use Rattle.store.specs.Check.{sizesOk, objectOk, fieldsOk, valueOk, slotOk, fallsIn, falls, checkStore}
+use Rattle.serializer.specs.Down.{down}
+use Rattle.serializer.specs.Smi.{smiBytes}
+use Rattle.serializer.specs.Field.{rawAt}
+use Rattle.serializer.specs.Offset.{rtOff}
+use Rattle.tables.specs.Layout.{layoutOf}
+use Rattle.header.specs.Header.{headerWith, headerBy}
+use Rattle.header.specs.Slots.{smiBy, fieldNum}
+use Rattle.header.specs.Calls.{headerCall, smiCall, numCall}
+use Rattle.header.specs.Shown.{shownHeader, shownSlot, shownField}
+use Rattle.header.specs.declared.HeaderAt.{HeaderAt}
+use Rattle.header.specs.declared.HeaderAt.the-variants as header-at
+
+-- a number in four bytes, and one below 0
+abbrev four : ℕ → List ℕ
+four v = v % 256 ∷ v / 256 % 256 ∷ v / 65536 % 256 ∷ v / 16777216 ∷ []
+
+abbrev minus : ℕ → ℕ
+minus n = 2 ^ 32 - n
+
+-- 01's object record, of a kind, and its slot
+abbrev object : ℕ → List ℕ
+object kind = four kind ++ four 0 ++ four 1 ++ four 0
+
+abbrev slot : List ℕ
+slot = four 1 ++ four 4 ++ four 0 ++ four 51 ++ four 0 ++ four 0
+
+-- 01's payload, with other first bytes and another parameter size
+abbrev payload : List ℕ → ℕ → List ℕ
+payload start size = start ++ replicate 24 0 ++ four 8 ++ four size ++ replicate 6 0 ++ (0x03 ∷ 0x05 ∷ 0x04 ∷ 0xfa ∷ 0x0b ∷ [])
+
+abbrev absent : List ℕ
+absent = four 0xffffffff
+
+-- 01's layout, with another tagged size and direct
+abbrev layout : ℕ → ℕ → List ℕ
+layout ts direct =
+    four ts ++ four 0 ++ four 54 ++ four 16 ++ four 24 ++ four 32 ++ absent ++ four 40 ++ four 44 ++ absent ++ absent ++ four 53 ++ four direct
+    ++ four (minus 6) ++ four (minus 5) ++ four (minus 4) ++ four (minus 8) ++ four 0 ++ four 0 ++ four 0
+
+abbrev length : ℕ → List ℕ
+length n = four 0 ++ four n
+
+abbrev header : ℕ → ℕ → List ℕ → ℕ → HeaderAt
+header ts direct start size = headerCall (object 1) slot (payload start size) (layout ts direct) 0
+
+-- 01's sample
+pub sample : header 8 0 (length 5) 8 ≡ header-at.At (record {
+  length = 5;
+  «parameter_count» = pos 1;
+  «register_count» = 1;
+  «frame_size» = 8;
+  osr = 0;
+  age = 0;
+  «code_at» = 46;
+  «code_len» = 5;
+})
+unfolding headerCall headerBy headerWith layoutOf checkStore sizesOk objectOk fieldsOk valueOk slotOk fallsIn falls firstFrom leAt slotOf objectOf rawAt down smiBytes rtOff
+sample = refl
+
+abbrev headers : List (List ℕ)
+headers =
+    -- parameter size -9: count -1; direct: its low 16 bits
+    shownHeader (header 8 0 (length 5) (minus 9))
+    ∷ shownHeader (header 8 1 (length 5) (minus 9))
+    -- 4-byte tagged slots, captured in units of 8
+    ∷ shownHeader (header 4 0 (four 10 ++ four 0) 8)
+    -- a length that the payload does not hold, one that is no small integer, one too long, one below 0
+    ∷ shownHeader (header 8 0 (length 65536) 8)
+    ∷ shownHeader (header 8 0 (four 1 ++ four 5) 8)
+    ∷ shownHeader (header 8 0 (length 65537) 8)
+    ∷ shownHeader (header 8 0 (length (minus 1)) 8)
+    -- no BytecodeArray, no object
+    ∷ shownHeader (headerCall (object 0) slot (payload (length 5) 8) (layout 8 0) 0)
+    ∷ shownHeader (headerCall (object 1) slot (payload (length 5) 8) (layout 8 0) 1)
+    ∷ []
+
+pub header-cases : headers ≡
+    (1 ∷ 5 ∷ (2 ^ 64 - 1) ∷ 1 ∷ 8 ∷ 0 ∷ 0 ∷ 46 ∷ 5 ∷ [])
+    ∷ (1 ∷ 5 ∷ 65527 ∷ 1 ∷ 8 ∷ 0 ∷ 0 ∷ 46 ∷ 5 ∷ [])
+    ∷ (1 ∷ 5 ∷ 1 ∷ 1 ∷ 8 ∷ 0 ∷ 0 ∷ 46 ∷ 5 ∷ [])
+    ∷ (1 ∷ 65536 ∷ 1 ∷ 1 ∷ 8 ∷ 0 ∷ 0 ∷ 0 ∷ 0 ∷ [])
+    ∷ (1 ∷ 0 ∷ 1 ∷ 1 ∷ 8 ∷ 0 ∷ 0 ∷ 46 ∷ 0 ∷ [])
+    ∷ (2 ∷ 9 ∷ 0 ∷ [])
+    ∷ (2 ∷ 9 ∷ 0 ∷ [])
+    ∷ (2 ∷ 8 ∷ 0 ∷ [])
+    ∷ (2 ∷ 8 ∷ 0 ∷ [])
+    ∷ []
+unfolding headerCall headerBy headerWith layoutOf checkStore sizesOk objectOk fieldsOk valueOk slotOk fallsIn falls firstFrom leAt slotOf objectOf rawAt down smiBytes rtOff modulo
+header-cases = refl
+
+abbrev smi : ℕ → ℕ → List ℕ
+smi ts n = shownSlot (smiCall (object 1) slot (payload (length 5) (minus 9)) ts 0 n)
+
+abbrev num : ℕ → ℕ → Bool → List ℕ
+num ts n flag = shownField (numCall (object 1) slot (payload (length 5) (minus 9)) ts 0 n flag)
+
+abbrev slots : List (List ℕ)
+slots =
+    -- slot 1 is 0 and 5, slot 5 is 8 and -9
+    smi 8 1 ∷ smi 8 5 ∷ num 8 1 false ∷ num 8 1 true ∷ num 8 5 false ∷ num 8 5 true
+    -- the same in 4-byte slots 9 and 10
+    ∷ smi 4 9 ∷ smi 4 10 ∷ num 4 10 false ∷ num 4 10 true
+    -- another tagged size has no small integers
+    ∷ smi 2 17 ∷ num 2 17 true
+    -- a slot that no run holds, and one that is too high
+    ∷ smi 8 0 ∷ num 8 0 false ∷ smi 8 (2 ^ 32) ∷ num 8 (2 ^ 32) true ∷ []
+
+pub slot-cases : slots ≡
+    (1 ∷ 5 ∷ []) ∷ (1 ∷ (2 ^ 64 - 9) ∷ []) ∷ (1 ∷ 5 ∷ []) ∷ (1 ∷ 5 ∷ []) ∷ (1 ∷ 8 ∷ []) ∷ (1 ∷ (2 ^ 32 - 9) ∷ [])
+    ∷ (1 ∷ 4 ∷ []) ∷ (1 ∷ (2 ^ 64 - 5) ∷ []) ∷ (1 ∷ (2 ^ 32 - 9) ∷ []) ∷ (1 ∷ (2 ^ 32 - 5) ∷ [])
+    ∷ (0 ∷ []) ∷ (1 ∷ 8 ∷ [])
+    ∷ (0 ∷ []) ∷ (0 ∷ []) ∷ (0 ∷ []) ∷ (0 ∷ []) ∷ []
+unfolding smiCall numCall smiBy fieldNum checkStore sizesOk objectOk fieldsOk valueOk slotOk fallsIn falls firstFrom leAt slotOf objectOf rawAt down modulo
+slot-cases = refl

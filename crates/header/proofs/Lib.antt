@@ -1,0 +1,4 @@
+pub mod Laws
+pub mod Searched
+pub mod Inside
+pub mod Cases

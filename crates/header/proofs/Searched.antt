@@ -1,0 +1,53 @@
+-- On a store that passes its check the search changes nothing: what is read by the search is what is read by the walk over all slots.
+-- Assumes nothing.
+use Prim.Native.Nat.{ℕ}
+use mathlib.Core.Path.{_≡_, refl, sym, ap, _∙_}
+use mathlib.Core.Bool.{Bool}
+use mathlib.Core.List.{List}
+use native.Mathlib.Omega.{arith}
+use borrow.Author.Tests.{lt-ltb}
+use Rattle.refusal.specs.declared.Check.{Check}
+use Rattle.refusal.specs.declared.Check.the-variants.{Ok, Refused}
+use Rattle.refusal.specs.Check.{orElse}
+use Rattle.store.specs.declared.Object.{Object}
+use Rattle.store.specs.Records.{objectOf, objectCount}
+use Rattle.store.specs.Check.{checkStore, checkCodeObject, Ordered}
+use Rattle.store.proofs.Good.{good-code-object}
+use Rattle.serializer.specs.declared.RawAt.{RawAt}
+use Rattle.serializer.specs.Field.{rawAt, rawSearched}
+use Rattle.serializer.specs.Calls.{checkAt}
+use Rattle.serializer.proofs.Searched.{raw-searched}
+use Rattle.serializer.proofs.Checked.{check-ordered}
+use Rattle.tables.specs.declared.Layout.{Layout}
+use Rattle.header.specs.Header.{headerBy, headerOf, headerSearched, rtFor}
+use Rattle.header.specs.Slots.{smiBy, fieldNum}
+use Rattle.header.specs.Calls.{checkCode}
+
+module _ (s : List ℕ) (first count : ℕ) (ordered : Ordered s first count) where
+  -- the two readers are one function
+  pub reader-searched : (ts : ℕ) → rawSearched s first count ts ≡ rawAt s first count ts
+  reader-searched ts = λ i off len. raw-searched s first count ordered ts off len i
+
+  pub smi-searched : (payload : List ℕ) (ts slot : ℕ) → smiBy payload (rawSearched s first count ts) ts slot ≡ smiBy payload (rawAt s first count ts) ts slot
+  smi-searched payload ts slot = ap (λ (raw : ℕ → ℕ → RawAt). smiBy payload raw ts slot) (reader-searched ts)
+
+  pub num-searched : (payload : List ℕ) (ts slot : ℕ) (flag : Bool) → fieldNum payload (rawSearched s first count ts) ts slot flag ≡ fieldNum payload (rawAt s first count ts) ts slot flag
+  num-searched payload ts slot flag = ap (λ (raw : ℕ → ℕ → RawAt). fieldNum payload raw ts slot flag) (reader-searched ts)
+
+pub header-searched : (s payload : List ℕ) (o : Object) (l : Layout) → Ordered s (o .first) (o .count) → headerSearched s payload o l ≡ headerOf s payload o l
+header-searched s payload o l ordered =
+    ap (λ (raw : ℕ → ℕ → RawAt). headerBy payload raw (rtFor s o l) l) (reader-searched s (o .first) (o .count) ordered (l .«tagged_size»))
+
+both-ok : (a b : Check) → orElse a b ≡ Ok → (a ≡ Ok) × (b ≡ Ok)
+both-ok Ok b h = (refl, h)
+both-ok (Refused r) b h = let z : _≡_ {A = ℕ} 0 1 = cc in absurd (omega arith)
+
+-- a BytecodeArray that is there is an object that is there
+pub code-checked : (o s p : List ℕ) (k : ℕ) → checkCode o s p k ≡ Ok → checkAt o s p k ≡ Ok
+code-checked o s p k ok =
+    let both = both-ok (checkStore o s p) (checkCodeObject o k) ok in
+    rw (both .0, lt-ltb k (objectCount o) (good-code-object o k (both .1) .0))
+
+-- from a function's answer x to the check: its slots are in order
+pub code-ordered : (o s p : List ℕ) (k : ℕ) {x : Check} → x ≡ checkCode o s p k → x ≡ Ok → Ordered s (objectOf o k .first) (objectOf o k .count)
+code-ordered o s p k e ok = check-ordered o s p k (code-checked o s p k (sym e ∙ ok))

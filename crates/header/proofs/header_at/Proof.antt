@@ -1,0 +1,56 @@
+use denote.Ref.{now}
+use Rattle.store.specs.Records.{objectOf}
+use Rattle.tables.specs.Layout.{layoutOf}
+use Rattle.header.specs.Calls.{headerCall}
+use Rattle.header.proofs.Searched.{header-searched, code-ordered}
+use borrow.Author.Needs.{needs}
+use Rattle.header.proofs.header_at.Statement.{statement}
+use Rattle.header.proofs.header_at.Tie as tie
+
+check-code-requires : tie.Need-check-code-requires
+check-code-requires c κs = search needs
+
+enum-told : tie.Need-enum-told
+enum-told c = search needs
+
+object-of-requires : tie.Need-object-of-requires
+object-of-requires c κs = search needs
+
+layout-of-requires : tie.Need-layout-of-requires
+layout-of-requires c κs = search needs
+
+header-of-requires : tie.Need-header-of-requires
+header-of-requires c κs = search needs
+
+enum-known-refusal : tie.Need-enum-known-refusal
+enum-known-refusal c = search needs
+
+returns : tie.Need-returns
+unfolding headerCall
+returns c =
+    let a = c .before .before .before .before .before .before .before .before .before .before .args in
+    let ordered = code-ordered (now (a .objects)) (now (a .slots)) (now (a .payload)) (a .object) (c .before .before .before .before .before .check-code .ensures) (c .before .before .before .enum-told .given .1) in
+    rw (
+      ← c .before .before .before .before .before .check-code .ensures,
+      c .before .before .before .enum-told .given .1,
+      ← header-searched (now (a .slots)) (now (a .payload)) (objectOf (now (a .objects)) (a .object)) (layoutOf (now (a .layout))) ordered,
+      ← c .before .before .object-of .ensures,
+      ← c .before .layout-of .ensures,
+    ) (c .header-of .ensures)
+
+returns-2 : tie.Need-returns-2
+unfolding headerCall
+returns-2 c = rw (← c .before .before .before .check-code .ensures, c .before .refusal .given .1)
+
+pub header-at-spec : {M : Type 1} → statement M
+header-at-spec =
+    tie.close
+    (tie.spec
+    check-code-requires
+    enum-told
+    object-of-requires
+    layout-of-requires
+    header-of-requires
+    enum-known-refusal
+    returns
+    returns-2)

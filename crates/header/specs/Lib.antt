@@ -1,0 +1,4 @@
+pub mod Header
+pub mod Slots
+pub mod Calls
+pub mod Shown
