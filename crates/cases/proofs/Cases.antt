@@ -16,13 +16,17 @@ use Rattle.decoder.specs.Instr.{headAt}
 use Rattle.decoder.specs.Decode.{partsFrom, readParts, decodeAt}
 use Rattle.decoder.specs.Listed.{listFrom}
 use Rattle.bytecode.specs.Texts.{paramName, regName, listName, operandText, instrName}
+use Rattle.flow.specs.Flow.{flowNames, flows, flowNumber, flowBy}
+use Rattle.targets.specs.Targets.{operandOf, indexOf, numberOf, distanceBy, jumpTarget, jumpTable, tableBy, sizedBy}
+use Rattle.lines.specs.Line.{operandsBy}
 use Rattle.cases.specs.Sample.{padded, opcode, typed, opcodes, types, four, fours, layout}
 use Rattle.cases.specs.Rows.{shown, codes, rows}
 
--- P1 to P8
+-- P1 to P9
 pub cases : map shown codes ≡ rows
 unfolding shown codes rows opcodes opcode typed types padded four fours layout listFrom decodeAt headAt prefixOp firstFrom readParts partsFrom width isList
     kinds kindOf ofKind interpret leAt modulo wrap32 signed nameAt decimal lastDigits runtimeName paramName regName listName operandText instrName
+          flowNames flows flowNumber flowBy isNamed operandOf indexOf numberOf distanceBy jumpTarget jumpTable tableBy sizedBy operandsBy
 cases = refl
 
 -- the sample table is good
