@@ -31,9 +31,14 @@ impl Word {
 #[derive(Debug, Clone, PartialEq)]
 pub enum Answer {
     Nothing,
-    Found { words: Vec<Word>, text: String },
+    Found {
+        words: Vec<Word>,
+        text: String,
+    },
     Refused(Refusal),
     End,
+    /// One answer to each of several questions.
+    Each(Vec<Answer>),
 }
 
 impl fmt::Display for Answer {
@@ -42,6 +47,10 @@ impl fmt::Display for Answer {
             Answer::Nothing => write!(f, "nothing"),
             Answer::End => write!(f, "end"),
             Answer::Refused(r) => write!(f, "{r}"),
+            Answer::Each(answers) => {
+                let shown: Vec<String> = answers.iter().map(Answer::to_string).collect();
+                write!(f, "{}", shown.join("; "))
+            }
             Answer::Found { words, text } => {
                 let shown = words.iter().map(|w| match w {
                     Word::U(v) => v.to_string(),
@@ -127,6 +136,8 @@ pub const DECODE: usize = 13;
 pub const SLOT_AT: usize = 14;
 pub const TABLE_CHECK: usize = 15;
 pub const STORE_CHECK: usize = 16;
+pub const INSTRUCTION_TEXT: usize = 17;
+pub const LAST_BYTES: usize = 18;
 
 macro_rules! function {
     ($name:literal, $args:expr, $lent:expr) => {
@@ -138,7 +149,7 @@ macro_rules! function {
 }
 
 /// By number. New functions go behind.
-pub const FUNCTIONS: [Function; 17] = [
+pub const FUNCTIONS: [Function; 19] = [
     function!("listing", [], TABLE | STORE, listing),
     function!("raw_at", ["object", "offset", "length"], READS, raw_at),
     function!("array_len", ["object"], READS, array_len),
@@ -156,6 +167,8 @@ pub const FUNCTIONS: [Function; 17] = [
     function!("slot_at", ["object", "slot"], STORE, slot_at),
     function!("table_check", [], TABLE),
     function!("store_check", [], STORE),
+    function!("instruction_text", ["start", "parameters"], TABLE, instruction_text),
+    function!("last_bytes", ["start"], ON_CODE, last_bytes),
 ];
 
 /// An error is a call that cannot be asked: wrong arguments, or not comparable.
@@ -196,6 +209,7 @@ fn fits(call: &Call) -> Result<(), String> {
         BCA_RT_OFF => call.args[1] <= u32::MAX as u64,
         REG_NAME => signed(0) && signed(1),
         RENDER_OPERAND => signed(2),
+        INSTRUCTION_TEXT => signed(1),
         _ => true,
     };
     good.then_some(()).ok_or("an argument is out of range".into())
@@ -342,8 +356,34 @@ fn render_operand(lent: &Lent) -> Result<Answer, Refusal> {
     Ok(operand.map_or(Answer::Nothing, |o| text(decoder.render_operand(o))))
 }
 
-fn decode_one(lent: &Lent) -> Result<Answer, Refusal> {
+/// Name and operands, put together as `render_sfi` does.
+fn instruction_text(lent: &Lent) -> Result<Answer, Refusal> {
     let Some(ins) = decode::checked(&lent.port, lent.code, lent.call.args[0])? else {
+        return Ok(Answer::End);
+    };
+    let decoder = lent.port.decoder(lent.signed(1));
+    let operands: Vec<String> = ins.operands.iter().map(|o| decoder.render_operand(o)).collect();
+    Ok(text(match operands.is_empty() {
+        true => ins.name,
+        false => format!("{} {}", ins.name, operands.join(", ")),
+    }))
+}
+
+fn decode_one(lent: &Lent) -> Result<Answer, Refusal> {
+    decoded(lent, lent.code)
+}
+
+/// decode_one on the code and one byte more, for each byte.
+fn last_bytes(lent: &Lent) -> Result<Answer, Refusal> {
+    let each = (0..=255).map(|b| {
+        let code = [lent.code, &[b]].concat();
+        decoded(lent, &code).unwrap_or_else(Answer::Refused)
+    });
+    Ok(Answer::Each(each.collect()))
+}
+
+fn decoded(lent: &Lent, code: &[u8]) -> Result<Answer, Refusal> {
+    let Some(ins) = decode::checked(&lent.port, code, lent.call.args[0])? else {
         return Ok(Answer::End);
     };
     let end = ins.offset + ins.bytes.len();

@@ -26,10 +26,14 @@ impl Classes {
         self.counts.iter().map(|(class, count)| format!("{count:>6} {class}\n")).collect()
     }
 
-    /// The classes that have no case, which is a defect.
-    pub fn missing(&self) -> Vec<&'static str> {
-        WANTED.into_iter().filter(|class| self.count(class) == 0).collect()
+    /// Those of the wanted classes that have no case, which is a defect.
+    pub fn missing(&self, wanted: &[String]) -> Vec<String> {
+        wanted.iter().filter(|class| self.count(class) == 0).cloned().collect()
     }
+}
+
+pub fn wanted() -> Vec<String> {
+    WANTED.map(String::from).to_vec()
 }
 
 /// Classes that must have a case, beside those that `faults` names.

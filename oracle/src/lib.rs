@@ -4,17 +4,23 @@
 //! document 01's numbers. checks: the refusals that the Rust does not have. ask: the answer of one
 //! function. vectors: answers as a file. sample, cases: document 01's sample and rows. recording:
 //! vectors from a seed, out of stores (random ones and their boundaries) and faults, by classes.
+//! code_recording: the same for instructions, out of codes, by the classes in instructions. v8: what
+//! V8 printed, as vectors.
 
 pub mod ask;
 pub mod cases;
 pub mod checks;
 pub mod classes;
+pub mod code_recording;
+pub mod codes;
 pub mod decode;
 pub mod faults;
+pub mod instructions;
 pub mod port;
 pub mod random;
 pub mod recording;
 pub mod records;
 pub mod sample;
 pub mod stores;
+pub mod v8;
 pub mod vectors;

@@ -128,13 +128,14 @@ impl Recording {
 #[cfg(test)]
 mod tests {
     use super::*;
+    use crate::classes::wanted;
     use crate::vectors;
 
     /// The file in recorded/ is what the seed gives, and every class has a case.
     #[test]
     fn recorded_file_is_current() {
         let recording = record(SEED).unwrap();
-        assert_eq!(recording.classes.missing(), Vec::<&str>::new());
+        assert_eq!(recording.classes.missing(&wanted()), Vec::<String>::new());
         assert!(include_bytes!("../recorded/store.vec")[..] == recording.writer.out);
         assert_eq!(vectors::replay(&recording.writer.out), Ok(recording.writer.calls));
     }
@@ -143,7 +144,7 @@ mod tests {
     #[test]
     fn copies_are_current() {
         let oracle = std::path::Path::new(env!("CARGO_MANIFEST_DIR"));
-        for name in ["rows.vec", "store.vec"] {
+        for name in ["rows.vec", "store.vec", "code.vec", "v8.vec"] {
             let recorded = std::fs::read(oracle.join("recorded").join(name)).unwrap();
             let copy = std::fs::read(oracle.join("../crates/replay/data").join(name)).unwrap();
             assert!(recorded == copy, "{name}");

@@ -60,9 +60,14 @@ impl Writer {
     /// Asks the call on the files and code set last, and records the answer.
     pub fn call(&mut self, call: &Call) -> Result<Answer, String> {
         let answer = ask::ask(&self.files, &self.code, call)?;
-        self.item(CALL + call.function as u8, &body(call, &answer));
-        self.calls += 1;
+        self.given(call, &answer);
         Ok(answer)
+    }
+
+    /// Records a call with an answer that was not asked here.
+    pub fn given(&mut self, call: &Call, answer: &Answer) {
+        self.item(CALL + call.function as u8, &body(call, answer));
+        self.calls += 1;
     }
 }
 
@@ -70,6 +75,13 @@ impl Writer {
 fn body(call: &Call, answer: &Answer) -> Vec<u8> {
     let mut out: Vec<u8> = call.args.iter().flat_map(|a| a.to_le_bytes()).collect();
     out.extend(&call.bytes);
+    out.extend(said(answer));
+    out
+}
+
+/// Status and answer.
+fn said(answer: &Answer) -> Vec<u8> {
+    let mut out = Vec::new();
     match answer {
         Answer::Nothing => out.push(0),
         Answer::Found { words, text } => {
@@ -83,6 +95,22 @@ fn body(call: &Call, answer: &Answer) -> Vec<u8> {
             out.extend(refusal.place.to_le_bytes());
         }
         Answer::End => out.push(3),
+        Answer::Each(answers) => {
+            out.push(1);
+            out.extend(runs(answers));
+        }
+    }
+    out
+}
+
+/// Runs of equal answers: how many, the length of what is said, and that.
+fn runs(answers: &[Answer]) -> Vec<u8> {
+    let mut out = Vec::new();
+    for run in answers.chunk_by(|a, b| a == b) {
+        let said = said(&run[0]);
+        out.extend((run.len() as u16).to_le_bytes());
+        out.extend((said.len() as u16).to_le_bytes());
+        out.extend(said);
     }
     out
 }

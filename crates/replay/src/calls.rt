@@ -1,5 +1,6 @@
 // One recorded call: our own function is asked on the same files, and its answer compared with the recorded one. A further function
-// is an arm in `replayed` and a function of its own here.
+// is an arm in `replayed` and a function of its own, here or in `instructions`.
+use crate::instructions;
 use crate::items::Files;
 use crate::items::Part;
 use crate::items::behind;
@@ -32,10 +33,15 @@ pub fn replayed(bytes: &[u8], files: Files, f: u8, body: Part) -> Outcome {
         3 => judged(array_elem(bytes, files, call)),
         6 => judged(bca_rt_off(bytes, files, call)),
         7 => judged(decode_smi_bytes(call)),
+        11 => judged(instructions::reg_name(bytes, files, call)),
+        12 => judged(instructions::render_operand(bytes, files, call)),
+        13 => judged(instructions::decode(bytes, files, call)),
         14 => judged(slot_at(bytes, files, call)),
         15 => judged(table_check(bytes, files, call)),
         16 => judged(store_check(bytes, files, call)),
-        0..=13 => Outcome::NotYet,
+        17 => judged(instructions::instruction_text(bytes, files, call)),
+        18 => judged(instructions::last_bytes(bytes, files, call)),
+        0..=10 => Outcome::NotYet,
         _ => Outcome::Differs,
     }
 }

@@ -8,13 +8,13 @@ use crate::items::item_at;
 use crate::items::no_files;
 
 // In place of a function's number: an item that is no call of a known function, and sets no file.
-const UNKNOWN: u8 = 17;
+const UNKNOWN: u8 = 19;
 
 // Calls, differences and the first call that differs, by function number. A call's number counts from 1 in its file.
 pub struct Counts {
-    pub calls: [u64; 18],
-    pub differences: [u64; 18],
-    pub first: [u64; 18],
+    pub calls: [u64; 20],
+    pub differences: [u64; 20],
+    pub first: [u64; 20],
     pub number: u64,
     pub replayed: u64,
     pub differing: u64,
@@ -35,9 +35,9 @@ pub fn replay_file(bytes: &[u8]) -> Counts {
 }
 
 fn no_counts() -> Counts {
-    let calls = [0u64; 18];
-    let differences = [0u64; 18];
-    let first = [0u64; 18];
+    let calls = [0u64; 20];
+    let differences = [0u64; 20];
+    let first = [0u64; 20];
     Counts {
         calls,
         differences,
@@ -76,7 +76,7 @@ fn counted(counts: Counts, f: u8, outcome: Outcome) -> Counts {
 }
 
 fn row(f: u8) -> usize {
-    if f < 17 { f as usize } else { 17 }
+    if f < 19 { f as usize } else { 19 }
 }
 
 // One more, up to the greatest number.
@@ -96,7 +96,7 @@ fn with_not_yet(mut counts: Counts) -> Counts {
 
 fn with_call(mut counts: Counts, row: usize) -> Counts {
     counts.replayed = more(counts.replayed);
-    if row < 18 {
+    if row < 20 {
         counts.calls[row] = more(counts.calls[row]);
     }
     counts
@@ -104,7 +104,7 @@ fn with_call(mut counts: Counts, row: usize) -> Counts {
 
 fn with_difference(mut counts: Counts, row: usize) -> Counts {
     counts.differing = more(counts.differing);
-    if row < 18 {
+    if row < 20 {
         if counts.differences[row] == 0 {
             counts.first[row] = counts.number;
         }

@@ -1,6 +1,7 @@
 // Replays the vectors that the oracle recorded: each call is asked of our own functions, and the answers are compared.
 mod calls;
 mod counts;
+mod instructions;
 mod items;
 mod said;
 
@@ -18,11 +19,19 @@ struct Total {
 fn main() {
     let rows = replay(b"rows.vec");
     let store = replay(b"store.vec");
-    let calls = std::num::wrapping_add_u64(rows.calls, store.calls);
-    let differences = std::num::wrapping_add_u64(rows.differences, store.differences);
+    let code = replay(b"code.vec");
+    let v8 = replay(b"v8.vec");
+    let total = both(both(rows, store), both(code, v8));
     io::write_all(STDOUT_FILENO, b"total");
-    print_numbers(calls, differences);
+    print_numbers(total.calls, total.differences);
     io::write_all(STDOUT_FILENO, b"\n");
+}
+
+fn both(a: Total, b: Total) -> Total {
+    Total {
+        calls: std::num::wrapping_add_u64(a.calls, b.calls),
+        differences: std::num::wrapping_add_u64(a.differences, b.differences),
+    }
 }
 
 // A file, in a buffer that is longer than any of them.
@@ -77,7 +86,7 @@ fn print_counts(name: &[u8], counts: Counts) -> Total {
 
 fn print_functions(counts: Counts) {
     let mut f: usize = 0;
-    while f < 18 {
+    while f < 20 {
         print_function(
             f as u8,
             counts.calls[f],
@@ -129,6 +138,8 @@ fn print_name(f: u8) {
         14 => io::write_all(STDOUT_FILENO, b"slot_at"),
         15 => io::write_all(STDOUT_FILENO, b"table_check"),
         16 => io::write_all(STDOUT_FILENO, b"store_check"),
+        17 => io::write_all(STDOUT_FILENO, b"instruction_text"),
+        18 => io::write_all(STDOUT_FILENO, b"last_bytes"),
         _ => io::write_all(STDOUT_FILENO, b"unknown"),
     }
     ;

@@ -2,9 +2,11 @@
 
 use oracle::ask::{ask, Call, DECODE_SMI_BYTES, FUNCTIONS, LISTING, NO_OBJECT};
 use oracle::checks;
+use oracle::classes::{self, Classes};
 use oracle::port::{Port, STORE, TABLE};
 use oracle::records::Files;
-use oracle::{cases, recording, sample, vectors};
+use oracle::vectors::{self, Writer};
+use oracle::{cases, code_recording, instructions, recording, sample, v8};
 use std::path::Path;
 use std::process::ExitCode;
 
@@ -16,6 +18,8 @@ const USAGE: &str = "usage:
   oracle cases                        document 01's rows: what it says and what the Rust says
   oracle record OUT                   write the vectors of these rows
   oracle record-store SEED OUT        write vectors of stores and tables, and count their classes
+  oracle record-code SEED OUT         write vectors of instructions, and count their classes
+  oracle record-v8 FOLDER OUT         write vectors of what V8 printed (v8-listings), and count them
   oracle replay FILE                  ask every call of a vector file again";
 
 fn main() -> ExitCode {
@@ -33,6 +37,8 @@ fn main() -> ExitCode {
         }
         ["record", out] => record(out),
         ["record-store", seed, out] => record_store(seed, out),
+        ["record-code", seed, out] => record_code(seed, out),
+        ["record-v8", folder, out] => record_v8(Path::new(folder), out),
         ["replay", file] => replay(file),
         _ => Err(USAGE.into()),
     };
@@ -117,15 +123,38 @@ fn record(out: &str) -> Result<bool, String> {
 
 fn record_store(seed: &str, out: &str) -> Result<bool, String> {
     let recording = recording::record(word(seed)?)?;
-    let vectors = &recording.writer;
+    classified(out, &recording.writer, &recording.classes, &classes::wanted())
+}
+
+fn record_code(seed: &str, out: &str) -> Result<bool, String> {
+    let recording = code_recording::record(word(seed)?)?;
+    classified(out, &recording.writer, &recording.classes, &instructions::wanted())
+}
+
+/// Writes vectors and prints their classes; false where a wanted class has no case.
+fn classified(
+    out: &str,
+    vectors: &Writer,
+    classes: &Classes,
+    wanted: &[String],
+) -> Result<bool, String> {
     std::fs::write(out, &vectors.out).map_err(|e| format!("{out}: {e}"))?;
-    print!("{}", recording.classes.report());
-    let missing = recording.classes.missing();
+    print!("{}", classes.report());
+    let missing = classes.missing(wanted);
     for class in &missing {
         println!("no case of {class}");
     }
     println!("{} calls, {} bytes", vectors.calls, vectors.out.len());
     Ok(missing.is_empty())
+}
+
+fn record_v8(folder: &Path, out: &str) -> Result<bool, String> {
+    let recording = v8::record(folder)?;
+    let vectors = &recording.writer;
+    std::fs::write(out, &vectors.out).map_err(|e| format!("{out}: {e}"))?;
+    print!("{}", recording.report());
+    println!("{} calls, {} bytes", vectors.calls, vectors.out.len());
+    Ok(true)
 }
 
 fn replay(file: &str) -> Result<bool, String> {

@@ -8,7 +8,7 @@ abbrev Inv-loop : tie.InvT-loop
 Inv-loop counts f₀ f = Unit {0}
 
 abbrev μ-loop : tie.MeasureT-loop
-μ-loop counts f₀ f = 18 - f
+μ-loop counts f₀ f = 20 - f
 
 loop-holds : tie.Need-loop-holds Inv-loop μ-loop
 loop-holds c = search needs
