@@ -26,7 +26,7 @@ use Rattle.cases.specs.Rows.{shown, codes, rows}
 pub cases : map shown codes ≡ rows
 unfolding shown codes rows opcodes opcode typed types padded four fours layout listFrom decodeAt headAt prefixOp firstFrom readParts partsFrom width isList
     kinds kindOf ofKind interpret leAt modulo wrap32 signed nameAt decimal lastDigits runtimeName paramName regName listName operandText instrName
-          flowNames flows flowNumber flowBy isNamed operandOf indexOf numberOf distanceBy jumpTarget jumpTable tableBy sizedBy operandsBy
+    flowNames flows flowNumber flowBy isNamed operandOf indexOf numberOf distanceBy jumpTarget jumpTable tableBy sizedBy operandsBy
 cases = refl
 
 -- the sample table is good

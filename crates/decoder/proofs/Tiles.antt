@@ -2,7 +2,7 @@
 use Prim.Native.Nat.{ℕ, zero, suc, _+_, _-_, _/_, _<_, _≤_}
 use mathlib.Core.Path.{_≡_, refl, sym, ap, _∙_}
 use mathlib.Core.Bool.{Bool, true, false, cond}
-use mathlib.Core.List.{List, [], _∷_, _++_}
+use mathlib.Core.List.{List, [], _∷_, _++_, map}
 use native.Mathlib.Omega.{arith}
 use native.Mathlib.Nat.{not-suc-le-zero}
 use borrow.Author.Tests.{ltb-true, ltb-false, eqb-true}
@@ -10,6 +10,7 @@ use lib.Dec.{leb, ltb, eqb}
 use lib.ListN.{length, getD, take, drop, drop-of-length-le, take-append-drop}
 use lib.Seq.{drop-drop}
 use lib.IntN.{ℤ}
+use Rattle.laws.specs.Scan.{firstFrom}
 use Rattle.laws.proofs.Tests.{by-test}
 use Rattle.refusal.specs.declared.Refusal.{Refusal}
 use Rattle.decoder.specs.declared.Instr.{Instr}
@@ -17,7 +18,7 @@ use Rattle.decoder.specs.declared.Outcome.{Outcome}
 use Rattle.decoder.specs.declared.Head.{Head}
 use Rattle.decoder.specs.declared.Decoded.{Decoded}
 use Rattle.decoder.specs.Instr.{opAt, behind, headAt}
-use Rattle.decoder.specs.Decode.{Part, readParts, decodeHead, decodeAt, partsFrom, operandTypes}
+use Rattle.decoder.specs.Decode.{Part, isShort, partWidth, readParts, decodeHead, decodeAt, partsFrom, operandTypes}
 use Rattle.decoder.specs.Listed.{Listing, listOn, listFrom}
 use Rattle.decoder.proofs.Listed.{past}
 
@@ -68,7 +69,7 @@ module _ (code ops types : List ℕ) (rfs : ℤ) (wide extra : ℕ) where
 
   parts-say : (opcode scale at place : ℕ) (ps : List Part) → DecodedSays at (readParts code types scale opcode rfs at place ps)
   unfolding readParts
-  parts-say opcode scale at place ps = by-test (DecodedSays at) _ (λ h. tt) (λ h. refl)
+  parts-say opcode scale at place ps = by-test (DecodedSays at) (ltb (firstFrom (isShort code (map (partWidth types scale) ps) place) 0 (length ps)) (length ps)) (λ h. tt) (λ h. refl)
 
   pub decode-says : (at : ℕ) → DecodedSays at (dec at)
   unfolding decodeAt
