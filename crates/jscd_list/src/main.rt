@@ -179,7 +179,7 @@ fn print(
     print_start(&out, n);
 }
 
-// A text never passes its buffer's end: a longer listing is number 17, and a refusal's line is short.
+// The first n bytes of a text. That n lies within the text is tested here, not proved.
 fn print_start(text: &[u8], n: usize) {
     if n <= text.len() {
         io::write_all(STDOUT_FILENO, &text[..n]);
