@@ -83,7 +83,7 @@ pub fn list(
 }
 
 // Rows 1 to 8.
-fn check_files(
+pub fn check_files(
     opcodes: &[u8],
     types: &[u8],
     runtime: &[u8],
@@ -144,7 +144,7 @@ fn list_object(
 }
 
 // The pool that a slot refers to.
-fn pool_by(objects: &[u8], found: SlotAt) -> Pool
+pub fn pool_by(objects: &[u8], found: SlotAt) -> Pool
     ensures { λ r. ⌜ r ≡ poolBy (now (objects .entry)) found ⌝ }
 {
     let SlotAt::At(value) = found else {
@@ -400,7 +400,7 @@ fn put_lines(
 }
 
 // Number 16 at the instruction's start.
-fn table_check(table: Table, at: usize) -> Check
+pub fn table_check(table: Table, at: usize) -> Check
     ensures { λ r. ⌜ r ≡ tableCheck table at ⌝ }
 {
     match table {
