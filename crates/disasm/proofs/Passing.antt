@@ -43,7 +43,7 @@ module _ (v : View) (d : ℕ → Decoded) (len : ℕ) where
     pub few : passed ≤ i
     pub inside : i ≤ len
     pub outcome : allOf .outcome ≡ restOf passed i .outcome
-    pub switches : switchCheck v (allOf .instrs) ≡ orElse check (switchCheck v (restOf passed i .instrs))
+    pub switches : switchCheck (v .opcodes) (v .pooled) (allOf .instrs) ≡ orElse check (switchCheck (v .opcodes) (v .pooled) (restOf passed i .instrs))
     pub lines : Written o p₀ (linesText v (allOf .instrs)) (linesText v (restOf passed i .instrs)) o′ p
 
   pub passing-start : (o : List ℕ) (p : ℕ) {r : ℕ} → r ≡ place (p + 0) → Passing o p o r Ok 0
@@ -63,7 +63,7 @@ module _ (v : View) (d : ℕ → Decoded) (len : ℕ) where
     passing-refused r e =
         let f = s .outcome ∙ ap (λ (l : Listing). l .outcome) (rest-is (list-refused d (len - s .passed) i r e)) in
         record {
-          checked = sym (ap (λ (x : Outcome). orElse (codeCheck x) (switchCheck v (allOf .instrs))) f);
+          checked = sym (ap (λ (x : Outcome). orElse (codeCheck x) (switchCheck (v .opcodes) (v .pooled) (allOf .instrs))) f);
           written = λ ok. absurd (never r (sym (ap codeCheck f) ∙ ok));
           kept = written-kept (s .lines);
         }
@@ -76,9 +76,9 @@ module _ (v : View) (d : ℕ → Decoded) (len : ℕ) where
     passing-end e =
         let rest = rest-is (list-end d (len - s .passed) i e) in
         let f = s .outcome ∙ ap (λ (l : Listing). l .outcome) rest in
-        let g = s .switches ∙ ap (λ (l : Listing). orElse check (switchCheck v (l .instrs))) rest ∙ or-none check in
+        let g = s .switches ∙ ap (λ (l : Listing). orElse check (switchCheck (v .opcodes) (v .pooled) (l .instrs))) rest ∙ or-none check in
         record {
-          checked = sym (ap (λ (x : Outcome). orElse (codeCheck x) (switchCheck v (allOf .instrs))) f ∙ g);
+          checked = sym (ap (λ (x : Outcome). orElse (codeCheck x) (switchCheck (v .opcodes) (v .pooled) (allOf .instrs))) f ∙ g);
           written = λ ok. written-all (ap (λ (l : Listing). linesText v (l .instrs)) rest) (s .lines);
           kept = written-kept (s .lines);
         }
@@ -97,7 +97,7 @@ module _ (v : View) (d : ℕ → Decoded) (len : ℕ) where
           few = omega (arith, s .few);
           inside = high;
           outcome = rw next (s .outcome ∙ ap (λ (l : Listing). l .outcome) rest);
-          switches = rw (next, is) (s .switches ∙ ap (λ (l : Listing). orElse check (switchCheck v (l .instrs))) rest ∙ sym (or-assoc check t (switchCheck v (r .instrs))));
+          switches = rw (next, is) (s .switches ∙ ap (λ (l : Listing). orElse check (switchCheck (v .opcodes) (v .pooled) (l .instrs))) rest ∙ sym (or-assoc check t (switchCheck (v .opcodes) (v .pooled) (r .instrs))));
           lines = rw next (written-more (lineText v (d i .instr)) (linesText v (r .instrs)) h (ap (λ (l : Listing). linesText v (l .instrs)) rest) (s .lines) put);
         }
 

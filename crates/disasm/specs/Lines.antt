@@ -29,9 +29,9 @@ tableCheck (table.At e) at = Ok
 tableCheck table.Refused at = refused 16 at
 
 -- 16: "any listed instruction, reached or not"; the place is the instruction's start
-unfoldable pub switchCheck : View → List Instr → Check
-switchCheck v [] = Ok
-switchCheck v (i ∷ is) = orElse (tableCheck (jumpTable (v .pooled) (flowOf (v .opcodes) (i .opcode)) i) (i .offset)) (switchCheck v is)
+unfoldable pub switchCheck : List ℕ → Bool → List Instr → Check
+switchCheck ops pooled [] = Ok
+switchCheck ops pooled (i ∷ is) = orElse (tableCheck (jumpTable pooled (flowOf ops (i .opcode)) i) (i .offset)) (switchCheck ops pooled is)
 
 -- 11 to 15, "met as decoding goes on"
 abbrev pub codeCheck : Outcome → Check
@@ -40,12 +40,12 @@ codeCheck Outcome.Done = Ok
 codeCheck (Outcome.Refused r) = Refused r
 
 -- 11 to 15 come before 16, wherever they lie
-abbrev pub listingCheck : View → Listing → Check
-listingCheck v l = orElse (codeCheck (l .outcome)) (switchCheck v (l .instrs))
+abbrev pub listingCheck : List ℕ → Bool → Listing → Check
+listingCheck ops pooled l = orElse (codeCheck (l .outcome)) (switchCheck ops pooled (l .instrs))
 
 -- what one pass over the instructions answers, on a buffer o from place p on, which is o′ then: the checks, and, where decoding came to the
 -- code's end, the lines and the place behind them
 pub record Passed (v : View) (l : Listing) (o : List ℕ) (p : ℕ) (o′ : List ℕ) (r : Pass) : Type 0 where
-  pub checked : r .check ≡ listingCheck v l
+  pub checked : r .check ≡ listingCheck (v .opcodes) (v .pooled) l
   pub written : codeCheck (l .outcome) ≡ Ok → Put o p (linesText v (l .instrs)) o′ (r .place)
   pub kept : length o′ ≡ length o

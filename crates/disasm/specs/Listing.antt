@@ -93,11 +93,11 @@ unless (Refused r) o answer = (listed-as.Refused r, o)
 
 -- the header and the lines, once 11 to 16 are past
 unfoldable pub listView : View → Header → Listing → List ℕ → Listed × List ℕ
-listView v h l o = unless (listingCheck v l) o (putText (headerText h ++ linesText v (l .instrs)) o)
+listView v h l o = unless (listingCheck (v .opcodes) (v .pooled) l) o (putText (headerText h ++ linesText v (l .instrs)) o)
 
 -- the header and the lines put from place 0 of a buffer o on, by one pass, which left o′
 pub record Whole (v : View) (h : Header) (l : Listing) (o o′ : List ℕ) (r : Pass) : Type 0 where
-  pub checked : r .check ≡ listingCheck v l
+  pub checked : r .check ≡ listingCheck (v .opcodes) (v .pooled) l
   pub written : codeCheck (l .outcome) ≡ Ok → Put o 0 (headerText h ++ linesText v (l .instrs)) o′ (r .place)
   pub kept : length o′ ≡ length o
 

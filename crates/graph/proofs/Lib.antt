@@ -8,4 +8,5 @@ pub mod Queues
 pub mod Steps
 pub mod Walks
 pub mod Scan
+pub mod Same
 pub mod Examples

@@ -1,0 +1,81 @@
+-- The steps of an instruction. 01, "Walks": "From an instruction ending before e, by plain name: .."
+use Prim.Native.Nat.{ℕ, zero, suc, _+_}
+use mathlib.Core.Bool.{Bool, cond}
+use mathlib.Core.List.{List, [], _∷_, _++_, map}
+use lib.Dec.{eqb}
+use lib.IntN.{ℤ}
+use Rattle.graph.specs.Graph.{Graph, Step}
+use Rattle.graph.specs.Graph.Step.{To, NoTarget}
+use Rattle.decoder.specs.declared.Instr.{Instr}
+use Rattle.decoder.specs.Listed.{Listing, listed}
+use Rattle.flow.specs.Flow.{flowOf}
+use Rattle.flow.specs.declared.Flow.{Flow}
+use Rattle.flow.specs.declared.Kind.{Kind}
+use Rattle.flow.specs.declared.Kind.the-variants.{On, Ends, Jumps, Branches, JumpsBack, Switch}
+use Rattle.serializer.specs.declared.Elem.{Elem}
+use Rattle.targets.specs.Targets.{here, jumpTarget, jumpTable, entryAt}
+use Rattle.targets.specs.declared.Target.{Target}
+use Rattle.targets.specs.declared.Target.the-variants as target
+use Rattle.targets.specs.declared.Entries.{Entries}
+use Rattle.targets.specs.declared.Table.{Table}
+use Rattle.targets.specs.declared.Table.the-variants as table
+use Rattle.targets.specs.declared.Entry.{Entry}
+use Rattle.targets.specs.declared.Entry.the-variants as entry
+
+-- what walks come from: "the lent code, records and payload, never .. the marks"
+pub record Source : Type 0 where
+  pub code : List ℕ
+  pub opcodes : List ℕ
+  pub types : List ℕ
+  pub rfs : ℤ
+  pub pooled : Bool
+  pub elem : ℕ → Elem
+
+-- the step to a target; without one, "a step with no target"
+abbrev pub toTarget : Target → Step
+toTarget (target.At t) = To t
+toTarget target.Nothing = NoTarget
+
+-- a step for an entry shown
+abbrev pub entrySteps : Entry → List Step
+entrySteps (entry.Shown case t) = To t ∷ []
+entrySteps entry.Skipped = []
+
+-- entries k to k + n - 1
+unfoldable pub entriesSteps : (ℕ → Elem) → ℕ → Entries → ℕ → ℕ → List Step
+entriesSteps el at e k zero = []
+entriesSteps el at e k (suc n) = entrySteps (entryAt el at e k) ++ entriesSteps el at e (k + 1) n
+
+abbrev pub tableSteps : (ℕ → Elem) → ℕ → Table → List Step
+tableSteps el at table.Nothing = []
+tableSteps el at (table.At e) = entriesSteps el at e 0 (e .count)
+tableSteps el at table.Refused = []
+
+-- "Return, SuspendGenerator, Throw, ReThrow, Abort end it. Jump, JumpConstant, JumpLoop, JumpLoopConstant go to the target. Other names in
+-- `jump_target`'s list go to the target or e. A switch goes to any entry shown or e. All others go to e."
+abbrev pub stepsBy : Kind → Target → List Step → ℕ → List Step
+stepsBy Ends t entries e = []
+stepsBy Jumps t entries e = toTarget t ∷ []
+stepsBy JumpsBack t entries e = toTarget t ∷ []
+stepsBy Branches t entries e = toTarget t ∷ To e ∷ []
+stepsBy Switch t entries e = entries ++ To e ∷ []
+stepsBy On t entries e = To e ∷ []
+
+unfoldable pub instrSteps : (ℕ → Elem) → Bool → Flow → Instr → List Step
+instrSteps el pooled flow i = stepsBy (flow .kind) (jumpTarget el flow i) (tableSteps el (here i) (jumpTable pooled flow i)) (i .end)
+
+-- the steps from the listed instruction at o
+unfoldable pub stepsAt : Source → List Instr → ℕ → List Step
+stepsAt s [] o = []
+stepsAt s (i ∷ is) o = cond (eqb (i .offset) o) (instrSteps (s .elem) (s .pooled) (flowOf (s .opcodes) (i .opcode)) i) (stepsAt s is o)
+
+-- "Listed instructions are decoded from byte 0 of non-empty code, each where the last ended, to its end."
+abbrev pub listing : Source → Listing
+listing s = listed (s .code) (s .opcodes) (s .types) (s .rfs)
+
+abbrev pub offset : Instr → ℕ
+offset i = i .offset
+
+-- the graph whose walks are 01's walks
+unfoldable pub walkGraph : Source → Graph
+walkGraph s = record { starts = map offset (listing s .instrs); steps = stepsAt s (listing s .instrs) }
