@@ -22,11 +22,11 @@ use Rattle.lines.specs.Line.{View, lineText}
 use Rattle.lines.proofs.Written.{Written, written-none, written-more, written-all, written-kept}
 use Rattle.disasm.specs.Lines.{linesText, tableCheck, switchCheck, codeCheck, Passed}
 
-or-none : (a : Check) → orElse a Ok ≡ a
+pub or-none : (a : Check) → orElse a Ok ≡ a
 or-none Ok = refl
 or-none (Refused r) = refl
 
-or-assoc : (a b c : Check) → orElse (orElse a b) c ≡ orElse a (orElse b c)
+pub or-assoc : (a b c : Check) → orElse (orElse a b) c ≡ orElse a (orElse b c)
 or-assoc Ok b c = refl
 or-assoc (Refused r) b c = refl
 

@@ -112,6 +112,10 @@ module _ (el : ℕ → Elem) {x : Step} where
         go JumpsBack h = h
         go Switch h = table-back (here i) (i .end) (jumpTable pooled flow i) h
 
+-- an instruction starts where it was decoded
+pub own-offset : (code ops types : List ℕ) (rfs : ℤ) (at : ℕ) → decodes code ops types rfs at .outcome ≡ Outcome.Done → decodes code ops types rfs at .instr .offset ≡ at
+own-offset code ops types rfs at e = rw e at (decode-says code ops types rfs (prefixOp ops 1) (prefixOp ops 2) at)
+
 -- ---- the listed instructions are what is decoded at their offsets
 abbrev Own : (ℕ → Decoded) → List Instr → Type 0
 Own d [] = Unit {0}
@@ -121,10 +125,6 @@ module _ (s : Source) where
   abbrev dec : ℕ → Decoded
   dec = decodes (s .code) (s .opcodes) (s .types) (s .rfs)
 
-  -- an instruction starts where it was decoded
-  says-done : (at : ℕ) → dec at .outcome ≡ Outcome.Done → dec at .instr .offset ≡ at
-  says-done at e = rw e at (decode-says (s .code) (s .opcodes) (s .types) (s .rfs) (prefixOp (s .opcodes) 1) (prefixOp (s .opcodes) 2) at)
-
   own : (f at : ℕ) → Own dec (listFrom dec f at .instrs)
   unfolding listFrom
   own zero at = tt
@@ -133,7 +133,7 @@ module _ (s : Source) where
       go : (o : Outcome) → dec at .outcome ≡ o → Own dec (listFrom dec f (dec at .instr .end) .instrs) → Own dec (listOn o (dec at .instr) (listFrom dec f (dec at .instr .end)) .instrs)
       go Outcome.End e rest = tt
       go (Outcome.Refused r) e rest = tt
-      go Outcome.Done e rest = (ap (λ (o : ℕ). dec o .instr) (says-done at e), rest)
+      go Outcome.Done e rest = (ap (λ (o : ℕ). dec o .instr) (own-offset (s .code) (s .opcodes) (s .types) (s .rfs) at e), rest)
 
   abbrev ownSteps : ℕ → List Step
   ownSteps o = instrSteps (s .elem) (s .pooled) (flowOf (s .opcodes) (dec o .instr .opcode)) (dec o .instr)
