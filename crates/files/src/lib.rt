@@ -40,15 +40,18 @@ pub fn run_from(what: Program, first: u8) {
 }
 
 fn usage(what: Program) {
-    match what {
-        Program::List => {
-            io::write_all(STDERR_FILENO, b"usage: jscd_list");
-        }
-    }
+    io::write_all(STDERR_FILENO, b"usage: ");
+    put_name(what);
     io::write_all(
         STDERR_FILENO,
         b" [opcodes types runtime intrinsic layout objects slots payload]\n",
     );
+}
+
+fn put_name(what: Program) -> bool {
+    match what {
+        Program::List => io::write_all(STDERR_FILENO, b"jscd_list"),
+    }
 }
 
 // A file's limit is 65,536 bytes. Its buffer has one more, in which a longer file shows. Each function here reads one file and lends it to

@@ -37,7 +37,8 @@ abbrev pub told : Listed → List ℕ → List ℕ
 told (listed-as.Done n) o = take n o
 told (listed-as.Refused r) o = refusalText r
 
--- The text that the listing program prints by way of a buffer of n bytes, whatever the buffer held before.
+-- "The listing program lends 65,536 bytes for its text; a longer listing is number 17": the text that it prints by way of n bytes. These are
+-- n zeros here; that what they held before makes no difference is the contract of `list_text`.
 abbrev pub shown : Files → ℕ → List ℕ
 shown f n = told (limited f (replicate n 0) .0) (limited f (replicate n 0) .1)
 
