@@ -1,14 +1,14 @@
 -- What the programs print.
-use Prim.Native.Nat.{ℕ}
+use Prim.Native.Nat.{ℕ, _≤_}
+use mathlib.Core.Path.{_≡_}
 use mathlib.Core.List.{List, _++_}
 use mathlib.Core.Bool.{Bool, _&&_}
 use lib.Dec.{leb}
-use lib.ListN.{length}
-use lib.Seq.{sets}
+use lib.ListN.{length, take, drop, replicate}
 use Rattle.laws.specs.Ascii.{ascii}
 use Rattle.refusal.specs.declared.Refusal.{Refusal}
 use Rattle.refusal.specs.Check.{orElse, unlessGood}
-use Rattle.text.specs.Put.{place}
+use Rattle.text.specs.Put.{Put}
 use Rattle.text.specs.Texts.{decimal}
 use Rattle.tables.specs.Check.{checkTable}
 use Rattle.disasm.specs.declared.Listed.{Listed}
@@ -32,12 +32,20 @@ limited f o =
     (unlessGood (withinLimit (length (f .objects)) (length (f .slots)) (length (f .payload))) 6))
     o (listCall f 0 o)
 
--- The length of what is printed and the buffer that starts with it, for an answer and the buffer that it left: the listing, or the refusal's
--- line, as far as the buffer reaches.
-abbrev pub told : Listed → List ℕ → ℕ × List ℕ
-told (listed-as.Done n) o = (n, o)
-told (listed-as.Refused r) o = (place (length (refusalText r)), sets o 0 (refusalText r))
+-- The text of an answer and of the buffer that it left: the listing, or the refusal's line.
+abbrev pub told : Listed → List ℕ → List ℕ
+told (listed-as.Done n) o = take n o
+told (listed-as.Refused r) o = refusalText r
 
--- the whole call of the listing program, with the buffer o
-abbrev pub printed : Files → List ℕ → ℕ × List ℕ
-printed f o = told (limited f o .0) (limited f o .1)
+-- "The listing program lends 65,536 bytes for its text; a longer listing is number 17": the text that it prints by way of n bytes. These are
+-- n zeros here; that what they held before makes no difference is the contract of `list_text`.
+abbrev pub shown : Files → ℕ → List ℕ
+shown f n = told (limited f (replicate n 0) .0) (limited f (replicate n 0) .1)
+
+-- The text t was put at the start of the buffer o, as far as o reaches, which left o′; r is the text's length. A buffer of 64 bytes or more
+-- reaches: its first r bytes are the text, and the others are as they were.
+pub record Printed (t o o′ : List ℕ) (r : ℕ) : Type 0 where
+  pub put : Put o 0 t o′ r
+  pub within : 64 ≤ length o → r ≤ length o′
+  pub start : 64 ≤ length o → take r o′ ≡ t
+  pub rest : 64 ≤ length o → drop r o′ ≡ drop r o

@@ -4,9 +4,10 @@ use disasm::Listed;
 use refusal::Check;
 use refusal::Refusal;
 ghost use mathlib.Core.Path.{_≡_};
+ghost use lib.ListN.{length};
 ghost use Rattle.text.specs.Put.{Put};
 ghost use Rattle.disasm.specs.Listing.{ListedAs};
-ghost use Rattle.program.specs.Printed.{refusalText, withinLimit, limited, printed};
+ghost use Rattle.program.specs.Printed.{refusalText, withinLimit, limited, shown, Printed};
 
 // The line `refused 14 at 1`.
 pub fn put_refusal(out: &mut [u8], at: usize, r: Refusal) -> usize
@@ -19,7 +20,8 @@ pub fn put_refusal(out: &mut [u8], at: usize, r: Refusal) -> usize
     text::put_byte(out, p, b'\n')
 }
 
-// What `jscd_list` prints, from the start of the buffer on: the listing of object 0, or the line of its refusal. It answers how long that is.
+// What `jscd_list` prints, from the start of the buffer on: the listing of object 0, or the line of its refusal. It answers how long that is,
+// which a buffer of 64 bytes always has room for.
 pub fn list_text(
     out: &mut [u8],
     opcodes: &[u8],
@@ -31,7 +33,7 @@ pub fn list_text(
     slots: &[u8],
     payload: &[u8],
 ) -> usize
-    ensures { λ r. ⌜ (r, now (out .exit)) ≡ printed (record { opcodes = now (opcodes .entry); types = now (types .entry); runtime = now (runtime .entry); intrinsic = now (intrinsic .entry); layout = now (layout .entry); objects = now (objects .entry); slots = now (slots .entry); payload = now (payload .entry) }) (now (out .entry)) ⌝ }
+    ensures { λ r. ⌜ Printed (shown (record { opcodes = now (opcodes .entry); types = now (types .entry); runtime = now (runtime .entry); intrinsic = now (intrinsic .entry); layout = now (layout .entry); objects = now (objects .entry); slots = now (slots .entry); payload = now (payload .entry) }) (length (now (out .entry)))) (now (out .entry)) (now (out .exit)) r ⌝ }
 {
     let listed = list_limited(
         out,

@@ -1,5 +1,7 @@
-use mathlib.Core.Path.{refl}
-use Rattle.program.proofs.Laws.{put-first}
+use native.Mathlib.Omega.{arith}
+use denote.Ref.{now}
+use Rattle.disasm.specs.Listing.{Files}
+use Rattle.program.proofs.Laws.{printed-listing, printed-refusal}
 use borrow.Author.Needs.{needs}
 use Rattle.program.proofs.list_text.Statement.{statement}
 use Rattle.program.proofs.list_text.Tie as tie
@@ -20,13 +22,21 @@ same-length : tie.Need-same-length
 same-length c = search needs
 
 returns : tie.Need-returns
-returns c = rw (← c .before .before .before .before .before .list-limited .ensures .0, ← c .before .before .before .before .before .list-limited .ensures .1, c .before .listed .given .1) refl
+returns c =
+    let a = c .before .before .before .before .before .before .before .before .before .before .before .before .before .before .before .before .args in
+    let e = c .before .before .before .before .before .list-limited .ensures in
+    let f : Files = record { opcodes = now (a .opcodes); types = now (a .types); runtime = now (a .runtime); intrinsic = now (a .intrinsic); layout = now (a .layout); objects = now (a .objects); slots = now (a .slots); payload = now (a .payload) } in
+    printed-listing f (now (a .out)) (omega (arith, c .before .before .before .before .before .before .before .before .before .before .before .before .before .before .before .before .good)) (e .0) (e .1) _ (c .before .listed .given .1)
 
 same-length-2 : tie.Need-same-length-2
 same-length-2 c = search needs
 
 returns-2 : tie.Need-returns-2
-returns-2 c = rw (← c .before .before .before .before .before .before .before .before .before .list-limited .ensures .0, ← c .before .before .before .before .before .before .before .before .before .list-limited .ensures .1, c .before .before .before .before .before .listed2 .given .1) (put-first (c .before .before .put-refusal .ensures))
+returns-2 c =
+    let a = c .before .before .before .before .before .before .before .before .before .before .before .before .before .before .before .before .before .before .before .before .args in
+    let e = c .before .before .before .before .before .before .before .before .before .list-limited .ensures in
+    let f : Files = record { opcodes = now (a .opcodes); types = now (a .types); runtime = now (a .runtime); intrinsic = now (a .intrinsic); layout = now (a .layout); objects = now (a .objects); slots = now (a .slots); payload = now (a .payload) } in
+    printed-refusal f (now (a .out)) (omega (arith, c .before .before .before .before .before .before .before .before .before .before .before .before .before .before .before .before .before .before .before .before .good)) (e .0) (e .1) _ (c .before .before .before .before .before .listed2 .given .1) (c .before .before .put-refusal .ensures)
 
 pub list-text-spec : {M : Type 1} → statement M
 list-text-spec =

@@ -1,5 +1,5 @@
 use native.Mathlib.Omega.{arith}
-use Rattle.text.proofs.Put.{then, kept}
+use Rattle.text.proofs.Put.{then}
 use Rattle.program.specs.Printed.{refusalText}
 use borrow.Author.Needs.{needs}
 use Rattle.program.proofs.put_refusal.Statement.{statement}
