@@ -183,7 +183,13 @@ fn put_raw(out: &mut [u8], at: usize, types: &[u8], ty: u8, value: u64) -> usize
 }
 
 // The instruction at place start, by the prefix opcodes and the layout's reg_file_start.
-pub fn decode_with(opcodes: &[u8], types: &[u8], layout: &[u8], code: &[u8], start: usize) -> Decoded
+pub fn decode_with(
+    opcodes: &[u8],
+    types: &[u8],
+    layout: &[u8],
+    code: &[u8],
+    start: usize,
+) -> Decoded
     ensures { λ r. ⌜ r ≡ decodes (now (code .entry)) (now (opcodes .entry)) (now (types .entry)) (signedValue (now (layout .entry)) 13) start ⌝ }
 {
     let prefixes = tables::prefix_ops(opcodes);
