@@ -4,7 +4,7 @@ use mathlib.Core.Path.{_≡_, refl, ap, _∙_}
 use mathlib.Core.List.{List}
 use Rattle.refusal.specs.declared.Check.the-variants.{Ok}
 use Rattle.store.specs.Records.{objectOf}
-use Rattle.store.specs.Check.{checkStore, checkObject}
+use Rattle.store.specs.Check.{checkStore}
 use Rattle.serializer.specs.Slots.{slotAt}
 use Rattle.serializer.proofs.Searched.{slot-searched}
 use Rattle.tables.specs.Layout.{layoutOf}
@@ -24,7 +24,7 @@ module _ (f : Files) where
   pool-owned owner.Nothing ok = refl
   pool-owned (owner.Object n) ok =
       let o = objectOf (f .objects) n in
-      let store = or-left (checkStore (f .objects) (f .slots) (f .payload)) (checkObject (f .objects) n) ok in
+      let store = or-left (checkStore (f .objects) (f .slots) (f .payload)) _ ok in
       ap (poolBy (f .objects)) (slot-searched (f .slots) (o .first) (o .count) (ordered (f .objects) (f .slots) (f .payload) store n) (layoutOf (f .layout) .«pool_slot»))
 
   -- its elements
@@ -33,7 +33,7 @@ module _ (f : Files) where
   elems-owned owner.Nothing ok = refl
   elems-owned (owner.Object n) ok =
       let o = objectOf (f .objects) n in
-      let store = or-left (checkStore (f .objects) (f .slots) (f .payload)) (checkObject (f .objects) n) ok in
+      let store = or-left (checkStore (f .objects) (f .slots) (f .payload)) _ ok in
       pool-elems (f .objects) (f .slots) (f .payload) store (f .payload) (layoutOf (f .layout) .«tagged_size») (slotAt (f .slots) (o .first) (o .count) (layoutOf (f .layout) .«pool_slot»))
 
   module _ (w : Owner) (code : List ℕ) (ok : checkLent f w code ≡ Ok) where
