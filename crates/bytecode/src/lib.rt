@@ -94,7 +94,7 @@ pub fn instr_name(out: &mut [u8], at: usize, opcodes: &[u8], opcode: u8, scale: 
     }
 }
 
-fn check_code(code: &[u8]) -> Check
+pub fn check_code(code: &[u8]) -> Check
     ensures { λ r. ⌜ r ≡ checkCode (now (code .entry)) ⌝ }
 {
     refusal::unless(code.len() <= 65536, 10)
@@ -183,7 +183,13 @@ fn put_raw(out: &mut [u8], at: usize, types: &[u8], ty: u8, value: u64) -> usize
 }
 
 // The instruction at place start, by the prefix opcodes and the layout's reg_file_start.
-fn decode_with(opcodes: &[u8], types: &[u8], layout: &[u8], code: &[u8], start: usize) -> Decoded
+pub fn decode_with(
+    opcodes: &[u8],
+    types: &[u8],
+    layout: &[u8],
+    code: &[u8],
+    start: usize,
+) -> Decoded
     ensures { λ r. ⌜ r ≡ decodes (now (code .entry)) (now (opcodes .entry)) (now (types .entry)) (signedValue (now (layout .entry)) 13) start ⌝ }
 {
     let prefixes = tables::prefix_ops(opcodes);

@@ -37,11 +37,11 @@ use Rattle.header.specs.declared.HeaderAt.the-variants as header-at
 use Rattle.targets.specs.declared.Pool.the-variants as pool
 
 -- the parts of a check that found nothing
-or-left : (a b : Check) → orElse a b ≡ Ok → a ≡ Ok
+pub or-left : (a b : Check) → orElse a b ≡ Ok → a ≡ Ok
 or-left Ok b h = refl
 or-left (Refused r) b h = h
 
-or-right : (a b : Check) → orElse a b ≡ Ok → b ≡ Ok
+pub or-right : (a b : Check) → orElse a b ≡ Ok → b ≡ Ok
 or-right Ok b h = h
 or-right (Refused r) b h = let z : _≡_ {A = ℕ} 0 1 = cc in absurd (omega arith)
 
@@ -71,7 +71,7 @@ module _ (o s p : List ℕ) (ok : checkStore o s p ≡ Ok) where
       past l i j le m = absurd (omega (arith, leAt-past o (16 * n + 8) 4 (omega (arith, whole))))
 
   -- the pool's elements
-  pool-elems : (payload : List ℕ) (ts : ℕ) (at : SlotAt) → poolSearched s payload ts (poolBy o at) ≡ poolElem s payload ts (poolBy o at)
+  pub pool-elems : (payload : List ℕ) (ts : ℕ) (at : SlotAt) → poolSearched s payload ts (poolBy o at) ≡ poolElem s payload ts (poolBy o at)
   unfolding poolSearched poolElem poolBy
   pool-elems payload ts (slot-at.At (value.Object n)) = λ i k. elem-searched s (objectOf o n .first) (objectOf o n .count) (ordered n) payload ts k i
   pool-elems payload ts (slot-at.At value.Other) = refl

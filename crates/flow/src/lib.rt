@@ -85,7 +85,7 @@ fn plain(kind: Kind, pool: bool) -> Flow
 }
 
 // The first of the 37 names that the opcode record at place at has; 37 where it has none.
-fn flow_number(opcodes: &[u8], at: usize) -> u8
+pub fn flow_number(opcodes: &[u8], at: usize) -> u8
     ensures { λ r. ⌜ r ≡ flowNumber (now (opcodes .entry)) at ⌝ }
 {
     let mut k: u8 = 0;

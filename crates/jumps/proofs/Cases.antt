@@ -1,0 +1,100 @@
+-- Targets and tables at places of small codes over 01's sample table, by computing. Assumes nothing.
+use Prim.Native.Nat.{ℕ}
+use mathlib.Core.Path.{_≡_, refl}
+use mathlib.Core.List.{List, [], _∷_, _++_}
+use lib.IntN.{pos}
+use Rattle.laws.specs.Scan.{firstFrom, within}
+use Rattle.words.specs.Le.{leAt}
+use Rattle.words.specs.Signed.{modulo, wrap32, signed}
+use Rattle.refusal.specs.Check.{refusalAt}
+use Rattle.store.specs.Records.{slotOf, objectOf}
+use Rattle.store.specs.Check.{sizesOk, objectOk, fieldsOk, valueOk, slotOk, fallsIn, falls, checkStore}
+use Rattle.serializer.specs.Smi.{smiBytes}
+use Rattle.serializer.specs.Down.{down}
+use Rattle.serializer.specs.Slots.{slotAt}
+use Rattle.serializer.specs.Element.{elemAt}
+use Rattle.tables.specs.Names.{nameOk, nameAt, isNamed}
+use Rattle.tables.specs.Records.{width, prefixOp, typeNames, nameFits, sizeGood, sizeFits, opcodeOk}
+use Rattle.tables.specs.Layout.{ranges, rangeOf, layoutOf}
+use Rattle.tables.specs.Check.{wholeRecords, checkTable}
+use Rattle.operand.specs.Operand.{kinds, kindOf, ofKind, interpret, isList}
+use Rattle.decoder.specs.Instr.{headAt}
+use Rattle.decoder.specs.Decode.{partsFrom, readParts, decodeAt}
+use Rattle.cases.specs.Sample.{padded, opcode, typed, opcodes, types, four, fours, layout}
+use Rattle.flow.specs.Flow.{flowNames, flows, flowNumber, flowBy}
+use Rattle.targets.specs.Targets.{poolElem, operandOf, indexOf, numberOf, distanceBy, jumpTarget, jumpTable, tableBy, sizedBy}
+use Rattle.disasm.specs.Listing.{Files, poolBy}
+use Rattle.jumps.specs.Jumps.{targetOf, targetCall, tableOf, tableCall}
+use Rattle.jumps.specs.declared.Owner.the-variants as owner
+use Rattle.jumps.specs.declared.TargetAt.the-variants as target-at
+use Rattle.jumps.specs.declared.TableAt.the-variants as table-at
+
+-- an object of kind 0, by its first slot and their count
+abbrev object : ℕ → ℕ → List ℕ
+object first count = 0 ∷ 0 ∷ 0 ∷ 0 ∷ four first ++ four count ++ four 0
+
+-- a slot, by its index, kind, number and length
+abbrev slot : ℕ → ℕ → ℕ → ℕ → List ℕ
+slot index kind number len = four index ++ (kind ∷ 0 ∷ 0 ∷ 0 ∷ []) ++ four number ++ four len ++ four 0 ++ four 0
+
+-- object 0 has object 1 for its pool, whose elements are 4 and a reference
+abbrev files : List ℕ → Files
+files ops = record {
+  opcodes = ops;
+  types = types;
+  runtime = [];
+  intrinsic = [];
+  layout = layout;
+  objects = object 0 1 ++ object 1 2;
+  slots = slot 2 1 1 0 ++ slot 2 4 0 8 ++ slot 3 1 0 0;
+  payload = four 0 ++ four 4;
+}
+
+-- P9; the code's end and a place beyond it; a constant jump without and with a pool; an object that is not there
+pub target-cases :
+    (targetCall (files opcodes) owner.Nothing (0x07 ∷ 0x03 ∷ 0x00 ∷ []) 0
+    ∷ targetCall (files opcodes) owner.Nothing (0x02 ∷ []) 1
+    ∷ targetCall (files opcodes) owner.Nothing (0x02 ∷ []) 2
+    ∷ targetCall (files opcodes) owner.Nothing (0x08 ∷ 0x00 ∷ []) 0
+    ∷ targetCall (files opcodes) (owner.Object 0) (0x08 ∷ 0x00 ∷ []) 0
+    ∷ targetCall (files opcodes) (owner.Object 2) (0x08 ∷ 0x00 ∷ []) 0
+    ∷ [])
+    ≡ (target-at.At 18446744073709551613 ∷ target-at.End ∷ target-at.Refused (refusalAt 20 2) ∷ target-at.Nothing ∷ target-at.At 4
+    ∷ target-at.Refused (refusalAt 8 0) ∷ [])
+unfolding targetCall targetOf opcodes opcode typed types padded four fours layout checkTable wholeRecords within firstFrom nameOk opcodeOk sizeFits sizeGood nameFits isNamed typeNames
+    ranges rangeOf leAt checkStore sizesOk objectOk slotOk valueOk fieldsOk falls fallsIn objectOf slotOf layoutOf poolBy slotAt poolElem elemAt down smiBytes decodeAt headAt
+    prefixOp readParts partsFrom width isList kinds kindOf ofKind interpret modulo wrap32 signed nameAt flowNames flows flowNumber flowBy operandOf indexOf
+    numberOf distanceBy jumpTarget
+target-cases = refl
+
+-- 01's switch with and without its pool
+pub table-cases :
+    (tableCall (files opcodes) (owner.Object 0) (0x09 ∷ 0x00 ∷ 0x02 ∷ 0x05 ∷ 0x0b ∷ []) 0
+    ∷ tableCall (files opcodes) owner.Nothing (0x09 ∷ 0x00 ∷ 0x02 ∷ 0x05 ∷ 0x0b ∷ []) 0
+    ∷ [])
+    ≡ (table-at.At (record { start = 0; count = 2; base = pos 5 }) ∷ table-at.Nothing ∷ [])
+unfolding tableCall tableOf opcodes opcode typed types padded four fours layout checkTable wholeRecords within firstFrom nameOk opcodeOk sizeFits sizeGood nameFits isNamed typeNames
+    ranges rangeOf leAt checkStore sizesOk objectOk slotOk valueOk fieldsOk falls fallsIn objectOf slotOf layoutOf poolBy slotAt decodeAt headAt
+    prefixOp readParts partsFrom width isList kinds kindOf ofKind interpret modulo wrap32 signed nameAt flowNames flows flowNumber flowBy operandOf indexOf
+    numberOf jumpTable tableBy sizedBy
+table-cases = refl
+
+-- a switch whose count is signed: 16 at its start, and only of the table
+abbrev signedSwitch : List ℕ
+signedSwitch = opcode "SwitchOnSmiNoFeedback" 0 (10 ∷ 9 ∷ 9 ∷ [])
+
+abbrev twoSwitches : List ℕ
+twoSwitches = 0x00 ∷ 0x00 ∷ 0x01 ∷ 0x05 ∷ 0x00 ∷ 0x00 ∷ 0xff ∷ 0x05 ∷ []
+
+pub sixteen-case : tableCall (files signedSwitch) (owner.Object 0) twoSwitches 4 ≡ table-at.Refused (refusalAt 16 4)
+unfolding tableCall tableOf opcode typed types padded four fours layout checkTable wholeRecords within firstFrom nameOk opcodeOk sizeFits sizeGood nameFits isNamed typeNames
+    ranges rangeOf leAt checkStore sizesOk objectOk slotOk valueOk fieldsOk falls fallsIn objectOf slotOf layoutOf poolBy slotAt decodeAt headAt
+    prefixOp readParts partsFrom width isList kinds kindOf ofKind interpret modulo wrap32 signed nameAt flowNames flows flowNumber flowBy operandOf indexOf
+    numberOf jumpTable tableBy sizedBy
+sixteen-case = refl
+
+pub sixteen-target : targetCall (files signedSwitch) (owner.Object 0) twoSwitches 4 ≡ target-at.Nothing
+unfolding targetCall targetOf opcode typed types padded four fours layout checkTable wholeRecords within firstFrom nameOk opcodeOk sizeFits sizeGood nameFits isNamed typeNames
+    ranges rangeOf leAt checkStore sizesOk objectOk slotOk valueOk fieldsOk falls fallsIn objectOf slotOf layoutOf poolBy slotAt decodeAt headAt
+    prefixOp readParts partsFrom width isList kinds kindOf ofKind interpret modulo wrap32 signed nameAt flowNames flows flowNumber flowBy jumpTarget
+sixteen-target = refl

@@ -1,0 +1,209 @@
+// The target of a jump and the table of a switch at a place of lent code, with 01's checks of all that is lent.
+use decoder::Decoded;
+use decoder::Outcome;
+use flow::Flow;
+use refusal::Check;
+use refusal::Refusal;
+use tables::Layout;
+use targets::Entries;
+use targets::Pool;
+use targets::Table;
+use targets::Target;
+ghost use mathlib.Core.Path.{_≡_};
+ghost use mathlib.Core.List.{[]};
+ghost use Rattle.flow.specs.Flow.{flowOf};
+ghost use Rattle.targets.specs.Targets.{poolSearched, found};
+ghost use Rattle.jumps.specs.Jumps.{checkOwner, checkLent, ownerFound, targetTold, targetOf, targetCall, tableTold, tableOf, tableCall};
+
+// The object whose pool the code uses, if one is lent. Without one no store is lent either.
+pub enum Owner {
+    Nothing,
+    Object(usize),
+}
+
+// Where a jump goes. End is the code's end; Nothing is no target.
+pub enum TargetAt {
+    At(u64),
+    Nothing,
+    End,
+    Refused(Refusal),
+}
+
+// The entries of a switch. End is the code's end; Nothing is no table.
+pub enum TableAt {
+    At(Entries),
+    Nothing,
+    End,
+    Refused(Refusal),
+}
+
+// The target of the jump at a place: rows 1 to 8, 10, 20 and 11 to 15.
+pub fn jump_target(
+    code: &[u8],
+    at: usize,
+    opcodes: &[u8],
+    types: &[u8],
+    layout: &[u8],
+    objects: &[u8],
+    slots: &[u8],
+    payload: &[u8],
+    owner: Owner,
+) -> TargetAt
+    ensures { λ r. ⌜ r ≡ targetCall (record { opcodes = now (opcodes .entry); types = now (types .entry); runtime = []; intrinsic = []; layout = now (layout .entry); objects = now (objects .entry); slots = now (slots .entry); payload = now (payload .entry) }) owner (now (code .entry)) at ⌝ }
+{
+    match check_lent(code, opcodes, types, layout, objects, slots, payload, owner) {
+        Check::Refused(refusal) => TargetAt::Refused(refusal),
+        Check::Ok => {
+            let shape = tables::layout_of(layout);
+            let pool = pool_of(objects, slots, shape, owner);
+            let d = bytecode::decode_with(opcodes, types, layout, code, at);
+            target_of(opcodes, slots, payload, shape.tagged_size, pool, d)
+        }
+    }
+}
+
+// The table of the switch at a place: rows 1 to 8, 10, 20 and 11 to 16.
+pub fn jump_table(
+    code: &[u8],
+    at: usize,
+    opcodes: &[u8],
+    types: &[u8],
+    layout: &[u8],
+    objects: &[u8],
+    slots: &[u8],
+    payload: &[u8],
+    owner: Owner,
+) -> TableAt
+    ensures { λ r. ⌜ r ≡ tableCall (record { opcodes = now (opcodes .entry); types = now (types .entry); runtime = []; intrinsic = []; layout = now (layout .entry); objects = now (objects .entry); slots = now (slots .entry); payload = now (payload .entry) }) owner (now (code .entry)) at ⌝ }
+{
+    match check_lent(code, opcodes, types, layout, objects, slots, payload, owner) {
+        Check::Refused(refusal) => TableAt::Refused(refusal),
+        Check::Ok => {
+            let shape = tables::layout_of(layout);
+            let pool = pool_of(objects, slots, shape, owner);
+            let d = bytecode::decode_with(opcodes, types, layout, code, at);
+            table_of(opcodes, pool, d, at)
+        }
+    }
+}
+
+// Rows 1 to 8 and 10.
+pub fn check_lent(
+    code: &[u8],
+    opcodes: &[u8],
+    types: &[u8],
+    layout: &[u8],
+    objects: &[u8],
+    slots: &[u8],
+    payload: &[u8],
+    owner: Owner,
+) -> Check
+    ensures { λ r. ⌜ r ≡ checkLent (record { opcodes = now (opcodes .entry); types = now (types .entry); runtime = []; intrinsic = []; layout = now (layout .entry); objects = now (objects .entry); slots = now (slots .entry); payload = now (payload .entry) }) owner (now (code .entry)) ⌝ }
+{
+    let table = tables::check_table(opcodes, types, b"", b"", layout);
+    let owned = check_owner(objects, slots, payload, owner);
+    let rest = refusal::or_else(owned, bytecode::check_code(code));
+    refusal::or_else(table, rest)
+}
+
+// The pool that the code uses. It checks nothing.
+pub fn pool_of(objects: &[u8], slots: &[u8], shape: Layout, owner: Owner) -> Pool
+    ensures { λ r. ⌜ r ≡ ownerFound (now (objects .entry)) (now (slots .entry)) shape owner ⌝ }
+{
+    match owner {
+        Owner::Nothing => Pool::Nothing,
+        Owner::Object(n) => {
+            let object = store::object_of(objects, n);
+            let found = serializer::find_slot(
+                slots,
+                object.first,
+                object.count,
+                shape.pool_slot as u64,
+            );
+            disasm::pool_by(objects, found)
+        }
+    }
+}
+
+// Rows 6 to 8, where an object is lent.
+fn check_owner(objects: &[u8], slots: &[u8], payload: &[u8], owner: Owner) -> Check
+    ensures { λ r. ⌜ r ≡ checkOwner (now (objects .entry)) (now (slots .entry)) (now (payload .entry)) owner ⌝ }
+{
+    match owner {
+        Owner::Nothing => Check::Ok,
+        Owner::Object(n) => refusal::or_else(
+            store::check_store(objects, slots, payload),
+            store::check_object(objects, n),
+        ),
+    }
+}
+
+// What an opcode does.
+fn flow_of(opcodes: &[u8], opcode: u8) -> Flow
+    ensures { λ r. ⌜ r ≡ flowOf (now (opcodes .entry)) opcode ⌝ }
+{
+    let op = opcode as usize;
+    flow::flow_by(flow::flow_number(opcodes, op * 64))
+}
+
+// The target of what was decoded.
+fn target_of(
+    opcodes: &[u8],
+    slots: &[u8],
+    payload: &[u8],
+    ts: u8,
+    pool: Pool,
+    d: Decoded,
+) -> TargetAt
+    ensures { λ r. ⌜ r ≡ targetOf (now (opcodes .entry)) (poolSearched (now (slots .entry)) (now (payload .entry)) ts pool) d ⌝ }
+{
+    let outcome = d.outcome;
+    let instr = d.instr;
+    match outcome {
+        Outcome::End => TargetAt::End,
+        Outcome::Refused(refusal) => TargetAt::Refused(refusal),
+        Outcome::Done => {
+            let flow = flow_of(opcodes, instr.opcode);
+            target_told(targets::jump_target(slots, payload, ts, pool, flow, instr))
+        }
+    }
+}
+
+// The table of what was decoded at a place.
+fn table_of(opcodes: &[u8], pool: Pool, d: Decoded, at: usize) -> TableAt
+    ensures { λ r. ⌜ r ≡ tableOf (now (opcodes .entry)) (found pool) d at ⌝ }
+{
+    let outcome = d.outcome;
+    let instr = d.instr;
+    match outcome {
+        Outcome::End => TableAt::End,
+        Outcome::Refused(refusal) => TableAt::Refused(refusal),
+        Outcome::Done => {
+            let flow = flow_of(opcodes, instr.opcode);
+            table_told(targets::jump_table(pool, flow, instr), at)
+        }
+    }
+}
+
+fn target_told(target: Target) -> TargetAt
+    ensures { λ r. ⌜ r ≡ targetTold target ⌝ }
+{
+    match target {
+        Target::At(t) => TargetAt::At(t),
+        Target::Nothing => TargetAt::Nothing,
+    }
+}
+
+// Number 16 at the instruction's start.
+fn table_told(table: Table, at: usize) -> TableAt
+    ensures { λ r. ⌜ r ≡ tableTold table at ⌝ }
+{
+    match table {
+        Table::Nothing => TableAt::Nothing,
+        Table::At(e) => TableAt::At(e),
+        Table::Refused => TableAt::Refused(Refusal {
+            number: 16,
+            place: at,
+        }),
+    }
+}
