@@ -24,3 +24,4 @@ pub mod sample;
 pub mod stores;
 pub mod v8;
 pub mod vectors;
+pub mod walks;

@@ -1,6 +1,6 @@
 //! The oracle's command line (see README.md).
 
-use oracle::ask::{ask, Call, DECODE_SMI_BYTES, FUNCTIONS, LISTING, NO_OBJECT};
+use oracle::ask::{ask, Call, DECODE_SMI_BYTES, FUNCTIONS, LISTING, NO_OBJECT, WALK};
 use oracle::checks;
 use oracle::classes::{self, Classes};
 use oracle::port::{Port, STORE, TABLE};
@@ -20,7 +20,8 @@ const USAGE: &str = "usage:
   oracle record-store SEED OUT        write vectors of stores and tables, and count their classes
   oracle record-code SEED OUT         write vectors of instructions, and count their classes
   oracle record-v8 FOLDER OUT         write vectors of what V8 printed (v8-listings), and count them
-  oracle replay FILE                  ask every call of a vector file again";
+  oracle replay FILE                  ask every call of a vector file again
+  oracle walk DIR [MARKS]             the walk over object 0's code with a mark buffer of so many bytes (65536)";
 
 fn main() -> ExitCode {
     let args: Vec<String> = std::env::args().skip(1).collect();
@@ -40,6 +41,8 @@ fn main() -> ExitCode {
         ["record-code", seed, out] => record_code(seed, out),
         ["record-v8", folder, out] => record_v8(Path::new(folder), out),
         ["replay", file] => replay(file),
+        ["walk", folder] => walk(Path::new(folder), "65536"),
+        ["walk", folder, marks] => walk(Path::new(folder), marks),
         _ => Err(USAGE.into()),
     };
     match done {
@@ -160,5 +163,11 @@ fn record_v8(folder: &Path, out: &str) -> Result<bool, String> {
 fn replay(file: &str) -> Result<bool, String> {
     let vectors = std::fs::read(file).map_err(|e| format!("{file}: {e}"))?;
     println!("{} calls, all the same", vectors::replay(&vectors)?);
+    Ok(true)
+}
+
+fn walk(folder: &Path, marks: &str) -> Result<bool, String> {
+    let files = Files::read(folder)?;
+    println!("{}", ask(&files, &[], &Call::new(WALK, &[word(marks)?]))?);
     Ok(true)
 }
