@@ -25,3 +25,4 @@ pub mod stores;
 pub mod v8;
 pub mod vectors;
 pub mod walks;
+pub mod walk_short;

@@ -6,7 +6,7 @@ use oracle::classes::{self, Classes};
 use oracle::port::{Port, STORE, TABLE};
 use oracle::records::Files;
 use oracle::vectors::{self, Writer};
-use oracle::{cases, code_recording, instructions, recording, sample, v8};
+use oracle::{cases, code_recording, instructions, recording, sample, v8, walk_short};
 use std::path::Path;
 use std::process::ExitCode;
 
@@ -41,6 +41,7 @@ fn main() -> ExitCode {
         ["record-code", seed, out] => record_code(seed, out),
         ["record-v8", folder, out] => record_v8(Path::new(folder), out),
         ["replay", file] => replay(file),
+        ["record-walk-short", out] => record_walk_short(out),
         ["walk", folder] => walk(Path::new(folder), "65536"),
         ["walk", folder, marks] => walk(Path::new(folder), marks),
         _ => Err(USAGE.into()),
@@ -169,5 +170,12 @@ fn replay(file: &str) -> Result<bool, String> {
 fn walk(folder: &Path, marks: &str) -> Result<bool, String> {
     let files = Files::read(folder)?;
     println!("{}", ask(&files, &[], &Call::new(WALK, &[word(marks)?]))?);
+    Ok(true)
+}
+
+fn record_walk_short(out: &str) -> Result<bool, String> {
+    let vectors = walk_short::record()?;
+    std::fs::write(out, &vectors.out).map_err(|e| format!("{out}: {e}"))?;
+    println!("{} calls, {} bytes", vectors.calls, vectors.out.len());
     Ok(true)
 }
