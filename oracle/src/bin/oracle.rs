@@ -6,7 +6,8 @@ use oracle::classes::{self, Classes};
 use oracle::port::{Port, STORE, TABLE};
 use oracle::records::Files;
 use oracle::vectors::{self, Writer};
-use oracle::{cases, code_recording, instructions, recording, sample, v8, walk_short};
+use oracle::{cases, code_recording, instructions, recording, sample, v8};
+use oracle::{walk_classes, walk_recording, walk_short};
 use std::path::Path;
 use std::process::ExitCode;
 
@@ -41,6 +42,7 @@ fn main() -> ExitCode {
         ["record-code", seed, out] => record_code(seed, out),
         ["record-v8", folder, out] => record_v8(Path::new(folder), out),
         ["replay", file] => replay(file),
+        ["record-walk", seed, out @ ..] => record_walk(seed, out),
         ["record-walk-short", out] => record_walk_short(out),
         ["walk", folder] => walk(Path::new(folder), "65536"),
         ["walk", folder, marks] => walk(Path::new(folder), marks),
@@ -171,6 +173,26 @@ fn walk(folder: &Path, marks: &str) -> Result<bool, String> {
     let files = Files::read(folder)?;
     println!("{}", ask(&files, &[], &Call::new(WALK, &[word(marks)?]))?);
     Ok(true)
+}
+
+fn record_walk(seed: &str, out: &[&str]) -> Result<bool, String> {
+    if out.len() != walk_recording::PARTS {
+        return Err(format!("record-walk writes {} files", walk_recording::PARTS));
+    }
+    let recording = walk_recording::record(word(seed)?)?;
+    let mut calls = 0;
+    for (out, vectors) in out.iter().zip(&recording.writers) {
+        std::fs::write(out, &vectors.out).map_err(|e| format!("{out}: {e}"))?;
+        println!("{out}: {} calls, {} bytes", vectors.calls, vectors.out.len());
+        calls += vectors.calls;
+    }
+    print!("{}", recording.classes.report());
+    let missing = recording.classes.missing(&walk_classes::wanted());
+    for class in &missing {
+        println!("no case of {class}");
+    }
+    println!("{calls} calls");
+    Ok(missing.is_empty())
 }
 
 fn record_walk_short(out: &str) -> Result<bool, String> {
