@@ -21,6 +21,8 @@ const CODES: usize = 160;
 const OBJECTS_CODES: usize = 4;
 /// Only contents longer than this are looked for in the file.
 const SHORT: usize = 300;
+/// The longest mark buffer that is recorded.
+const MOST_MARKS: u64 = 65_540;
 
 pub struct WalkRecording {
     /// One for each file.
@@ -73,6 +75,7 @@ impl WalkRecording {
 
     /// Asks, records and counts.
     fn call(&mut self, function: usize, args: &[u64]) -> Result<(), String> {
+        assert!(*args.last().unwrap() <= MOST_MARKS);
         let call = Call::new(function, args);
         let answer = self.writer.call(&call)?;
         self.classes.add(&classes(&self.files, &self.code, &call, &answer)?);
@@ -157,12 +160,12 @@ impl WalkRecording {
             let mut files = sample.clone();
             files.body[PAYLOAD][4..8].copy_from_slice(&i32::to_le_bytes(length));
             self.set(&files, &[]);
-            for marks in [0, 1, 4, 5, 6, 65_536, u64::MAX] {
+            for marks in [0, 1, 4, 5, 6, 65_536, MOST_MARKS] {
                 self.call(WALK, &[marks])?;
             }
         }
         for object in [0, NO_OBJECT] {
-            for marks in [0, 1, u64::MAX] {
+            for marks in [0, 1, MOST_MARKS] {
                 self.call(WALK_CODE, &[object, marks])?;
             }
         }

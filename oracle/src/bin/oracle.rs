@@ -7,7 +7,7 @@ use oracle::port::{Port, STORE, TABLE};
 use oracle::records::Files;
 use oracle::vectors::{self, Writer};
 use oracle::{cases, code_recording, instructions, recording, sample, v8};
-use oracle::{walk_classes, walk_recording, walk_short};
+use oracle::{walk_classes, walk_recording, walk_short, walk_v8};
 use std::path::Path;
 use std::process::ExitCode;
 
@@ -22,6 +22,9 @@ const USAGE: &str = "usage:
   oracle record-code SEED OUT         write vectors of instructions, and count their classes
   oracle record-v8 FOLDER OUT         write vectors of what V8 printed (v8-listings), and count them
   oracle replay FILE                  ask every call of a vector file again
+  oracle record-walk SEED OUT..       write vectors of the walk (five files), and count their classes
+  oracle record-walk-short OUT        write vectors of the walk over all short codes
+  oracle record-walk-v8 FOLDER OUT    write vectors of the walk over V8's functions (v8-listings)
   oracle walk DIR [MARKS]             the walk over object 0's code with a mark buffer of so many bytes (65536)";
 
 fn main() -> ExitCode {
@@ -43,6 +46,7 @@ fn main() -> ExitCode {
         ["record-v8", folder, out] => record_v8(Path::new(folder), out),
         ["replay", file] => replay(file),
         ["record-walk", seed, out @ ..] => record_walk(seed, out),
+        ["record-walk-v8", folder, out] => record_walk_v8(Path::new(folder), out),
         ["record-walk-short", out] => record_walk_short(out),
         ["walk", folder] => walk(Path::new(folder), "65536"),
         ["walk", folder, marks] => walk(Path::new(folder), marks),
@@ -193,6 +197,19 @@ fn record_walk(seed: &str, out: &[&str]) -> Result<bool, String> {
     }
     println!("{calls} calls");
     Ok(missing.is_empty())
+}
+
+fn record_walk_v8(folder: &Path, out: &str) -> Result<bool, String> {
+    let recording = walk_v8::record(folder)?;
+    let vectors = &recording.writer;
+    std::fs::write(out, &vectors.out).map_err(|e| format!("{out}: {e}"))?;
+    for other in &recording.others {
+        println!("{other}");
+    }
+    let (functions, others) = (recording.functions, recording.others.len());
+    println!("{functions} functions, {others} not closed, {} offsets reached", recording.reached);
+    println!("{} calls, {} bytes", vectors.calls, vectors.out.len());
+    Ok(recording.others.is_empty())
 }
 
 fn record_walk_short(out: &str) -> Result<bool, String> {
