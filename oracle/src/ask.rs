@@ -4,6 +4,7 @@ use crate::checks::{self, Refusal};
 use crate::decode;
 use crate::port::{bit, Port, STORE, TABLE};
 use crate::records::*;
+use crate::walks::{self, Outcome, Walked};
 use jscd::bytecode::{Instr, Operand};
 use jscd::disasm::open_max_register;
 use jscd::serializer::{decode_smi_bytes, Elem, Ref, SlotValue};
@@ -39,6 +40,7 @@ pub enum Answer {
     End,
     /// One answer to each of several questions.
     Each(Vec<Answer>),
+    Walked(Walked),
 }
 
 impl fmt::Display for Answer {
@@ -51,6 +53,10 @@ impl fmt::Display for Answer {
                 let shown: Vec<String> = answers.iter().map(Answer::to_string).collect();
                 write!(f, "{}", shown.join("; "))
             }
+            Answer::Walked(walked) => match walked.outcome {
+                Outcome::Closed => write!(f, "closed"),
+                Outcome::Leaves { steps, from } => write!(f, "leaves steps {steps} from {from}"),
+            },
             Answer::Found { words, text } => {
                 let shown = words.iter().map(|w| match w {
                     Word::U(v) => v.to_string(),
@@ -138,6 +144,9 @@ pub const TABLE_CHECK: usize = 15;
 pub const STORE_CHECK: usize = 16;
 pub const INSTRUCTION_TEXT: usize = 17;
 pub const LAST_BYTES: usize = 18;
+pub const WALK: usize = 19;
+pub const WALK_CODE: usize = 20;
+pub const WALK_LAST_BYTES: usize = 21;
 
 macro_rules! function {
     ($name:literal, $args:expr, $lent:expr) => {
@@ -149,7 +158,7 @@ macro_rules! function {
 }
 
 /// By number. New functions go behind.
-pub const FUNCTIONS: [Function; 19] = [
+pub const FUNCTIONS: [Function; 22] = [
     function!("listing", [], TABLE | STORE, listing),
     function!("raw_at", ["object", "offset", "length"], READS, raw_at),
     function!("array_len", ["object"], READS, array_len),
@@ -169,7 +178,13 @@ pub const FUNCTIONS: [Function; 19] = [
     function!("store_check", [], STORE),
     function!("instruction_text", ["start", "parameters"], TABLE, instruction_text),
     function!("last_bytes", ["start"], ON_CODE, last_bytes),
+    function!("walk", ["marks"], TABLE | STORE, walk),
+    function!("walk_code", ["object", "marks"], ON_CODE, walk_code),
+    function!("walk_last_bytes", ["object", "prefixes"], ON_CODE, walk_last_bytes),
 ];
+
+/// Functions whose first argument is the object that lends its pool, or none.
+const POOL_LENT: [usize; 4] = [JUMP_TARGET, JUMP_TABLE, WALK_CODE, WALK_LAST_BYTES];
 
 /// An error is a call that cannot be asked: wrong arguments, or not comparable.
 pub fn ask(files: &Files, code: &[u8], call: &Call) -> Result<Answer, String> {
@@ -178,7 +193,7 @@ pub fn ask(files: &Files, code: &[u8], call: &Call) -> Result<Answer, String> {
         return Err(format!("{} takes {}", function.name, function.args.join(", ")));
     }
     let mut lent = function.lent;
-    if matches!(call.function, JUMP_TARGET | JUMP_TABLE) && call.args[0] != NO_OBJECT {
+    if POOL_LENT.contains(&call.function) && call.args[0] != NO_OBJECT {
         lent |= STORE;
     }
     if let Err(refusal) = checks::table(files, lent).and_then(|_| store_check(files, lent, call)) {
@@ -192,12 +207,13 @@ pub fn ask(files: &Files, code: &[u8], call: &Call) -> Result<Answer, String> {
     Ok(run(&Lent { files, port, code, call }).unwrap_or_else(Answer::Refused))
 }
 
-/// The listing is that of the program, which reads files up to a limit.
+/// Listing and walk of object 0 are those of the programs, which read files up to a limit.
 fn store_check(files: &Files, lent: u8, call: &Call) -> checks::Check {
     if lent & bit(OBJECTS) == 0 {
         return Ok(());
     }
-    let most = if call.function == LISTING { checks::PROGRAM_FILE } else { usize::MAX };
+    let most =
+        if matches!(call.function, LISTING | WALK) { checks::PROGRAM_FILE } else { usize::MAX };
     checks::store(files, most)
 }
 
@@ -210,6 +226,7 @@ fn fits(call: &Call) -> Result<(), String> {
         REG_NAME => signed(0) && signed(1),
         RENDER_OPERAND => signed(2),
         INSTRUCTION_TEXT => signed(1),
+        WALK_LAST_BYTES => (1..=65_536).contains(&call.args[1]),
         _ => true,
     };
     good.then_some(()).ok_or("an argument is out of range".into())
@@ -229,12 +246,17 @@ impl<'a> Lent<'a> {
         self.call.args[k] as i64 as i32
     }
 
+    /// The object whose pool is meant.
+    fn pool_lent(&self) -> Result<usize, Refusal> {
+        match self.call.args[0] {
+            NO_OBJECT => Ok(self.port.without_pool()),
+            _ => self.object(),
+        }
+    }
+
     /// The object whose pool is meant, and the instruction at the start place.
     fn jump(&self) -> Result<(usize, Option<Instr>), Refusal> {
-        let function = match self.call.args[0] {
-            NO_OBJECT => self.port.without_pool(),
-            _ => self.object()?,
-        };
+        let function = self.pool_lent()?;
         Ok((function, decode::checked(&self.port, self.code, self.call.args[1])?))
     }
 }
@@ -395,6 +417,41 @@ fn decoded(lent: &Lent, code: &[u8]) -> Result<Answer, Refusal> {
         out.extend(operand_words(operand, code));
     }
     Ok(words(out))
+}
+
+/// The walk over the code of object 0.
+fn walk(lent: &Lent) -> Result<Answer, Refusal> {
+    let function = checks::function(lent.files, 0)?;
+    checks::code_length(lent.port.code_length(function))?;
+    let code = lent.port.code(function);
+    walks::check(&lent.port, function, code, lent.call.args[0]).map(Answer::Walked)
+}
+
+/// The walk over lent code.
+fn walk_code(lent: &Lent) -> Result<Answer, Refusal> {
+    let function = lent.pool_lent()?;
+    walks::check(&lent.port, function, lent.code, lent.call.args[1]).map(Answer::Walked)
+}
+
+/// walk_code with each last byte behind the lent code, and behind those that follow it as numbers
+/// whose first byte is the highest. Nothing, unless they all answer alike.
+fn walk_last_bytes(lent: &Lent) -> Result<Answer, Refusal> {
+    let function = lent.pool_lent()?;
+    let first = lent.code.iter().fold(0, |n, b| n << 8 | *b as u64);
+    let each = |prefix: u64| -> Vec<Answer> {
+        let mut code = prefix.to_be_bytes()[8 - lent.code.len()..].to_vec();
+        code.push(0);
+        let last = code.len() - 1;
+        let mut answer = |byte| {
+            code[last] = byte;
+            let said = walks::check(&lent.port, function, &code, code.len() as u64);
+            said.map_or_else(Answer::Refused, Answer::Walked)
+        };
+        (0..=255).map(&mut answer).collect()
+    };
+    let answers = each(first);
+    let same = (1..lent.call.args[1]).all(|k| each(first + k) == answers);
+    Ok(if same { Answer::Each(answers) } else { Answer::Nothing })
 }
 
 /// The type code of each decoded operand: a RegCount (8) right after a list (6, 7) gives none.

@@ -5,7 +5,7 @@
 //! function. vectors: answers as a file. sample, cases: document 01's sample and rows. recording:
 //! vectors from a seed, out of stores (random ones and their boundaries) and faults, by classes.
 //! code_recording: the same for instructions, out of codes, by the classes in instructions. v8: what
-//! V8 printed, as vectors.
+//! V8 printed, as vectors. walks: the walk check from document 01, with vectors in walk_*.
 
 pub mod ask;
 pub mod cases;
@@ -24,3 +24,9 @@ pub mod sample;
 pub mod stores;
 pub mod v8;
 pub mod vectors;
+pub mod walk_classes;
+pub mod walk_codes;
+pub mod walk_recording;
+pub mod walk_short;
+pub mod walk_v8;
+pub mod walks;

@@ -2,6 +2,7 @@
 
 use crate::ask::{self, Answer, Call, DECODE_SMI_BYTES, FUNCTIONS};
 use crate::records::Files;
+use crate::walks::{packed, Outcome};
 
 const CODE: u8 = 8;
 const PART: u8 = 16;
@@ -14,12 +15,19 @@ pub struct Writer {
     code: Vec<u8>,
     pub calls: usize,
     shares: bool,
+    /// Contents up to this length are not looked for.
+    short: usize,
 }
 
 impl Writer {
     /// A writer that says contents which stand in the file already as a part of it.
     pub fn sharing() -> Writer {
-        Writer { shares: true, ..Writer::default() }
+        Writer { shares: true, short: 8, ..Writer::default() }
+    }
+
+    /// The same for contents above a length: looking for short ones takes long in a long file.
+    pub fn sharing_above(short: usize) -> Writer {
+        Writer { shares: true, short, ..Writer::default() }
     }
 
     fn item(&mut self, kind: u8, body: &[u8]) {
@@ -30,7 +38,7 @@ impl Writer {
 
     /// Sets a record file or the code, as contents or as a part, whichever is shorter.
     fn set(&mut self, kind: u8, body: &[u8]) {
-        if self.shares && body.len() > 8 {
+        if self.shares && body.len() > self.short {
             if let Some(start) = self.out.windows(body.len()).position(|w| w == body) {
                 let numbers = [start as u32, body.len() as u32];
                 let part: Vec<u8> = numbers.iter().flat_map(|n| n.to_le_bytes()).collect();
@@ -95,6 +103,15 @@ fn said(answer: &Answer) -> Vec<u8> {
             out.extend(refusal.place.to_le_bytes());
         }
         Answer::End => out.push(3),
+        Answer::Walked(walked) => {
+            out.push(1);
+            let numbers = match walked.outcome {
+                Outcome::Closed => vec![0],
+                Outcome::Leaves { steps, from } => vec![1, steps as u64, from as u64],
+            };
+            out.extend(numbers.into_iter().flat_map(u64::to_le_bytes));
+            out.extend(packed(&walked.marks));
+        }
         Answer::Each(answers) => {
             out.push(1);
             out.extend(runs(answers));

@@ -1,12 +1,13 @@
 //! The oracle's command line (see README.md).
 
-use oracle::ask::{ask, Call, DECODE_SMI_BYTES, FUNCTIONS, LISTING, NO_OBJECT};
+use oracle::ask::{ask, Call, DECODE_SMI_BYTES, FUNCTIONS, LISTING, NO_OBJECT, WALK};
 use oracle::checks;
 use oracle::classes::{self, Classes};
 use oracle::port::{Port, STORE, TABLE};
 use oracle::records::Files;
 use oracle::vectors::{self, Writer};
 use oracle::{cases, code_recording, instructions, recording, sample, v8};
+use oracle::{walk_classes, walk_recording, walk_short, walk_v8};
 use std::path::Path;
 use std::process::ExitCode;
 
@@ -20,7 +21,11 @@ const USAGE: &str = "usage:
   oracle record-store SEED OUT        write vectors of stores and tables, and count their classes
   oracle record-code SEED OUT         write vectors of instructions, and count their classes
   oracle record-v8 FOLDER OUT         write vectors of what V8 printed (v8-listings), and count them
-  oracle replay FILE                  ask every call of a vector file again";
+  oracle replay FILE                  ask every call of a vector file again
+  oracle record-walk SEED OUT..       write vectors of the walk (five files), and count their classes
+  oracle record-walk-short OUT        write vectors of the walk over all short codes
+  oracle record-walk-v8 FOLDER OUT    write vectors of the walk over V8's functions (v8-listings)
+  oracle walk DIR [MARKS]             the walk over object 0's code with a mark buffer of so many bytes (65536)";
 
 fn main() -> ExitCode {
     let args: Vec<String> = std::env::args().skip(1).collect();
@@ -40,6 +45,11 @@ fn main() -> ExitCode {
         ["record-code", seed, out] => record_code(seed, out),
         ["record-v8", folder, out] => record_v8(Path::new(folder), out),
         ["replay", file] => replay(file),
+        ["record-walk", seed, out @ ..] => record_walk(seed, out),
+        ["record-walk-v8", folder, out] => record_walk_v8(Path::new(folder), out),
+        ["record-walk-short", out] => record_walk_short(out),
+        ["walk", folder] => walk(Path::new(folder), "65536"),
+        ["walk", folder, marks] => walk(Path::new(folder), marks),
         _ => Err(USAGE.into()),
     };
     match done {
@@ -160,5 +170,51 @@ fn record_v8(folder: &Path, out: &str) -> Result<bool, String> {
 fn replay(file: &str) -> Result<bool, String> {
     let vectors = std::fs::read(file).map_err(|e| format!("{file}: {e}"))?;
     println!("{} calls, all the same", vectors::replay(&vectors)?);
+    Ok(true)
+}
+
+fn walk(folder: &Path, marks: &str) -> Result<bool, String> {
+    let files = Files::read(folder)?;
+    println!("{}", ask(&files, &[], &Call::new(WALK, &[word(marks)?]))?);
+    Ok(true)
+}
+
+fn record_walk(seed: &str, out: &[&str]) -> Result<bool, String> {
+    if out.len() != walk_recording::PARTS {
+        return Err(format!("record-walk writes {} files", walk_recording::PARTS));
+    }
+    let recording = walk_recording::record(word(seed)?)?;
+    let mut calls = 0;
+    for (out, vectors) in out.iter().zip(&recording.writers) {
+        std::fs::write(out, &vectors.out).map_err(|e| format!("{out}: {e}"))?;
+        println!("{out}: {} calls, {} bytes", vectors.calls, vectors.out.len());
+        calls += vectors.calls;
+    }
+    print!("{}", recording.classes.report());
+    let missing = recording.classes.missing(&walk_classes::wanted());
+    for class in &missing {
+        println!("no case of {class}");
+    }
+    println!("{calls} calls");
+    Ok(missing.is_empty())
+}
+
+fn record_walk_v8(folder: &Path, out: &str) -> Result<bool, String> {
+    let recording = walk_v8::record(folder)?;
+    let vectors = &recording.writer;
+    std::fs::write(out, &vectors.out).map_err(|e| format!("{out}: {e}"))?;
+    for other in &recording.others {
+        println!("{other}");
+    }
+    let (functions, others) = (recording.functions, recording.others.len());
+    println!("{functions} functions, {others} not closed, {} offsets reached", recording.reached);
+    println!("{} calls, {} bytes", vectors.calls, vectors.out.len());
+    Ok(recording.others.is_empty())
+}
+
+fn record_walk_short(out: &str) -> Result<bool, String> {
+    let vectors = walk_short::record()?;
+    std::fs::write(out, &vectors.out).map_err(|e| format!("{out}: {e}"))?;
+    println!("{} calls, {} bytes", vectors.calls, vectors.out.len());
     Ok(true)
 }

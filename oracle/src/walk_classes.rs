@@ -1,0 +1,312 @@
+//! Which cases a recorded walk is one of. Distances are worked out here once more, by a queue: an
+//! answer that differs from them is an error.
+
+use crate::ask::*;
+use crate::port::{Port, STORE, TABLE};
+use crate::records::*;
+use crate::walk_codes::NEAR;
+use crate::walks::*;
+use jscd::bytecode::Instr;
+use std::collections::{BTreeMap, VecDeque};
+
+/// What a walk was asked of.
+struct Asked<'a> {
+    listed: Vec<Instr>,
+    steps: Steps,
+    entries: Vec<Option<usize>>,
+    code: &'a [u8],
+    walked: &'a Walked,
+}
+
+/// The classes of a call and its answer.
+pub fn classes(
+    files: &Files,
+    lent: &[u8],
+    call: &Call,
+    answer: &Answer,
+) -> Result<Vec<String>, String> {
+    let name = FUNCTIONS[call.function].name;
+    let marks = *call.args.last().unwrap();
+    let kinds = match answer {
+        Answer::Refused(refusal) => refused(lent, call, refusal.number, marks),
+        Answer::Walked(walked) => on_walk(files, lent, call, walked, marks)?,
+        _ => return Err(format!("{call:?}: {answer}")),
+    };
+    Ok(kinds.into_iter().map(|kind| format!("{name}: {kind}")).collect())
+}
+
+fn refused(lent: &[u8], call: &Call, number: u64, marks: u64) -> Vec<String> {
+    let mut out = vec![format!("refused {number}")];
+    let short = marks < lent.len() as u64 && call.function == WALK_CODE;
+    match number {
+        10..=16 if short => out.push(format!("refused {number}, the marks too short as well")),
+        18 if marks == 0 => out.push("refused 18, no mark".into()),
+        18 if marks + 1 == lent.len() as u64 => out.push("refused 18, one mark too few".into()),
+        _ => {}
+    }
+    out
+}
+
+fn on_walk(
+    files: &Files,
+    lent: &[u8],
+    call: &Call,
+    walked: &Walked,
+    marks: u64,
+) -> Result<Vec<String>, String> {
+    let object = if call.function == WALK { 0 } else { call.args[0] };
+    let store = if object == NO_OBJECT { 0 } else { STORE };
+    let port = Port::new(files, TABLE | store)?;
+    let function = if object == NO_OBJECT { port.without_pool() } else { object as usize };
+    let code = if call.function == WALK { port.code(0) } else { lent };
+    let listed = listed(&port, function, code).map_err(|r| r.to_string())?;
+    let steps = all_steps(&port, function, &listed);
+    let entries = |ins: &Instr| port.disassembler().open_jump_table(function, ins);
+    let entries = listed.iter().map(|ins| entries(ins).map(|e| e.len())).collect();
+    let asked = Asked { listed, steps, entries, code, walked };
+    let mut out = held(&[
+        ("as many marks as bytes", marks == code.len() as u64),
+        ("more marks than bytes", marks > code.len() as u64),
+        ("no object", object == NO_OBJECT),
+        ("an object with a pool", store != 0 && port.pool(function).is_some()),
+        ("an object without a pool", store != 0 && port.pool(function).is_none()),
+        ("tagged size 4", files.layout(0) == 4),
+        ("code of 65536 bytes", code.len() == 65_536),
+    ]);
+    out.extend(asked.outcome()?);
+    out.extend(asked.instructions());
+    Ok(out)
+}
+
+/// Names for the marks that hold.
+fn held(marks: &[(&str, bool)]) -> Vec<String> {
+    marks.iter().filter(|(_, is)| *is).map(|(mark, _)| mark.to_string()).collect()
+}
+
+impl Asked<'_> {
+    fn leaving(&self, at: usize) -> bool {
+        self.steps[&at].iter().any(|step| leaves(&self.steps, *step))
+    }
+
+    /// Steps to each offset by a queue, and the first met that leaves; steps in their order or not.
+    fn queue(&self, backward: bool) -> (BTreeMap<usize, usize>, Option<usize>) {
+        let mut distances = BTreeMap::from([(0, 0)]);
+        let mut first = None;
+        let mut queue = VecDeque::from([0]);
+        while let Some(at) = queue.pop_front() {
+            if first.is_none() && self.leaving(at) {
+                first = Some(at);
+            }
+            let mut steps: Vec<usize> = self.steps[&at].iter().flatten().copied().collect();
+            if backward {
+                steps.reverse();
+            }
+            for to in steps {
+                if self.steps.contains_key(&to) && !distances.contains_key(&to) {
+                    distances.insert(to, distances[&at] + 1);
+                    queue.push_back(to);
+                }
+            }
+        }
+        (distances, first)
+    }
+
+    fn outcome(&self) -> Result<Vec<String>, String> {
+        let (distances, first) = self.queue(false);
+        let (_, backward) = self.queue(true);
+        let least = first.map(|at| distances[&at]);
+        let ties: Vec<usize> = match least {
+            Some(d) => {
+                let as_near = distances.iter().filter(|(at, e)| **e == d && self.leaving(**at));
+                as_near.map(|(at, _)| *at).collect()
+            }
+            None => Vec::new(),
+        };
+        let (outcome, below) = match least {
+            None => (Outcome::Closed, usize::MAX),
+            Some(d) => (Outcome::Leaves { steps: d + 1, from: ties[0] }, d + 1),
+        };
+        let mark = |at: usize| distances.get(&at).is_some_and(|d| *d < below);
+        let marks: Vec<bool> = (0..self.code.len()).map(mark).collect();
+        if (outcome, &marks) != (self.walked.outcome, &self.walked.marks) {
+            return Err(format!("{:02x?}: a queue does not find {:?}", self.code, self.walked));
+        }
+        let unreached = self.steps.keys().filter(|at| !distances.contains_key(at));
+        let way_back = |at: &usize| self.steps[at].iter().flatten().any(|to| to <= at);
+        let mut out = match outcome {
+            Outcome::Closed => held(&[
+                ("closed", true),
+                ("closed, an instruction not reached", unreached.clone().next().is_some()),
+                (
+                    "closed, an instruction not reached would leave",
+                    unreached.clone().any(|at| self.leaving(*at)),
+                ),
+                ("closed, with a way back", distances.keys().any(way_back)),
+                ("closed, 20 or more steps deep", distances.values().any(|d| *d >= 20)),
+            ]),
+            Outcome::Leaves { steps, from } => {
+                let mut out = held(&[
+                    ("leaves", true),
+                    ("leaves, several at once", ties.len() > 1),
+                    (
+                        "leaves, the lowest is not the first in a queue",
+                        first != Some(from) || backward != Some(from),
+                    ),
+                    (
+                        "leaves, one is reached only in more steps",
+                        distances.values().any(|d| *d >= below),
+                    ),
+                    (
+                        "leaves, a lower one leaves in more steps",
+                        distances.keys().any(|at| *at < from && self.leaving(*at)),
+                    ),
+                    (
+                        "leaves, past a way back",
+                        distances.keys().any(|at| mark(*at) && way_back(at)),
+                    ),
+                ]);
+                out.push(match steps {
+                    0..=20 => format!("leaves in {steps} steps"),
+                    21..=40 => "leaves in 21 to 40 steps".into(),
+                    _ => "leaves in more than 40 steps".into(),
+                });
+                out.extend(self.ways(from));
+                out
+            }
+        };
+        out.dedup();
+        Ok(out)
+    }
+
+    /// How the instruction leaves.
+    fn ways(&self, from: usize) -> Vec<String> {
+        let ins = self.listed.iter().find(|ins| ins.offset == from).unwrap();
+        let (end, length) = (from + ins.bytes.len(), self.code.len());
+        let way = |step: &Step| match *step {
+            None => "no target",
+            Some(to) if to == length && to == end => "off the end",
+            Some(to) if to == length => "a jump to the code's end",
+            Some(to) if to > length && to as i64 >= 0 => "beyond the end",
+            Some(to) if to > length => "below 0",
+            Some(to) if to > from && to < end => "inside itself",
+            Some(_) => "inside another instruction",
+        };
+        let steps = self.steps[&from].iter().filter(|step| leaves(&self.steps, **step));
+        let mut out: Vec<String> = steps.map(|step| format!("leaves, {}", way(step))).collect();
+        out.sort();
+        out.dedup();
+        out
+    }
+
+    /// What the instructions are that have a mark.
+    fn instructions(&self) -> Vec<String> {
+        let mut out = Vec::new();
+        for (ins, entries) in self.listed.iter().zip(&self.entries) {
+            if !self.walked.marks[ins.offset] {
+                continue;
+            }
+            let name = plain(ins);
+            let prefix = ["", "", " under Wide", "", " under ExtraWide"][ins.scale as usize];
+            let listed = |step: &Step| !leaves(&self.steps, *step);
+            if ENDS.contains(&name) || NEAR.contains(&name) {
+                out.push(format!("{name} reached"));
+            } else if ALWAYS.contains(&name) || MAYBE.contains(&name) {
+                let constant = if name.ends_with("Constant") { " by the pool" } else { "" };
+                match self.steps[&ins.offset][0] {
+                    None => out.push(format!("a jump{constant} without a target")),
+                    step if listed(&step) => {
+                        out.push(format!("{name} to an instruction"));
+                        out.push(format!("a jump{constant} to an instruction{prefix}"));
+                    }
+                    _ => {}
+                }
+            } else if SWITCHES.contains(&name) {
+                let shown = match entries {
+                    None => "no table",
+                    Some(0) => "no entries",
+                    Some(1) => "one entry",
+                    Some(4_096) => "4096 entries",
+                    Some(_) => "several entries",
+                };
+                out.push(format!("{name}{prefix}, {shown}"));
+            }
+        }
+        out.sort();
+        out.dedup();
+        out
+    }
+}
+
+/// Classes that must have a case, of walk_code.
+const WANTED: [&str; 37] = [
+    "as many marks as bytes",
+    "more marks than bytes",
+    "no object",
+    "an object with a pool",
+    "an object without a pool",
+    "tagged size 4",
+    "code of 65536 bytes",
+    "closed",
+    "closed, an instruction not reached",
+    "closed, an instruction not reached would leave",
+    "closed, with a way back",
+    "closed, 20 or more steps deep",
+    "leaves",
+    "leaves, several at once",
+    "leaves, the lowest is not the first in a queue",
+    "leaves, one is reached only in more steps",
+    "leaves, a lower one leaves in more steps",
+    "leaves, past a way back",
+    "leaves, no target",
+    "leaves, off the end",
+    "leaves, a jump to the code's end",
+    "leaves, beyond the end",
+    "leaves, below 0",
+    "leaves, inside itself",
+    "leaves, inside another instruction",
+    "leaves in 21 to 40 steps",
+    "leaves in more than 40 steps",
+    "a jump to an instruction",
+    "a jump to an instruction under Wide",
+    "a jump to an instruction under ExtraWide",
+    "a jump by the pool to an instruction",
+    "a jump by the pool to an instruction under Wide",
+    "a jump by the pool to an instruction under ExtraWide",
+    "a jump without a target",
+    "a jump by the pool without a target",
+    "refused 18, no mark",
+    "refused 18, one mark too few",
+];
+
+/// Refusals of both functions; 9 is that of an object's code, 10 that of lent code.
+const REFUSALS: [u64; 16] = [1, 2, 3, 4, 5, 6, 7, 8, 11, 12, 13, 14, 15, 16, 18, 19];
+
+pub fn wanted() -> Vec<String> {
+    let mut out: Vec<String> = WANTED.iter().map(|class| class.to_string()).collect();
+    out.extend((1..=20).map(|n| format!("leaves in {n} steps")));
+    out.extend(REFUSALS.iter().chain(&[10]).map(|n| format!("refused {n}")));
+    out.extend((10..=16).map(|n| format!("refused {n}, the marks too short as well")));
+    out.extend(ENDS.iter().chain(&NEAR).map(|name| format!("{name} reached")));
+    out.extend(ALWAYS.iter().chain(&MAYBE).map(|name| format!("{name} to an instruction")));
+    for name in SWITCHES {
+        for shown in ["no table", "no entries", "one entry", "several entries"] {
+            out.push(format!("{name}, {shown}"));
+        }
+        for prefix in ["Wide", "ExtraWide"] {
+            out.push(format!("{name} under {prefix}, no table"));
+        }
+    }
+    out.push("SwitchOnSmiNoFeedback, 4096 entries".into());
+    let mut out: Vec<String> = out.iter().map(|class| format!("walk_code: {class}")).collect();
+    out.extend(REFUSALS.iter().chain(&[9]).map(|n| format!("walk: refused {n}")));
+    let of_objects = [
+        "closed",
+        "leaves",
+        "an object with a pool",
+        "an object without a pool",
+        "more marks than bytes",
+        "tagged size 4",
+    ];
+    out.extend(of_objects.iter().map(|class| format!("walk: {class}")));
+    out
+}

@@ -1,0 +1,299 @@
+//! The walk check, written from document 01's section "Walks". The Rust has none: it decodes and
+//! gives jump targets and switch entries, and what the steps of an instruction are is said here.
+//!
+//! The sets of offsets reached in exactly 0, 1, 2, .. steps are worked out one after the other, as the
+//! section defines them.
+
+use crate::checks::{self, Refusal};
+use crate::decode;
+use crate::port::Port;
+use jscd::bytecode::Instr;
+use std::collections::{BTreeMap, BTreeSet};
+
+#[derive(Debug, Clone, Copy, PartialEq, Eq)]
+pub enum Outcome {
+    Closed,
+    /// The steps of a shortest walk that leaves, and the lowest offset that one leaves from.
+    Leaves {
+        steps: usize,
+        from: usize,
+    },
+}
+
+#[derive(Debug, Clone, PartialEq)]
+pub struct Walked {
+    pub outcome: Outcome,
+    /// As many as the code has bytes.
+    pub marks: Vec<bool>,
+}
+
+/// What a step leads to: a place, or there is no target.
+pub type Step = Option<usize>;
+
+/// The listed instructions by offset, each with its steps.
+pub type Steps = BTreeMap<usize, Vec<Step>>;
+
+/// Names that end a walk.
+pub const ENDS: [&str; 5] = ["Return", "SuspendGenerator", "Throw", "ReThrow", "Abort"];
+
+/// Names that go to the target alone.
+pub const ALWAYS: [&str; 4] = ["Jump", "JumpConstant", "JumpLoop", "JumpLoopConstant"];
+
+/// The other names in the list of `jump_target`.
+pub const MAYBE: [&str; 26] = [
+    "JumpIfTrue",
+    "JumpIfTrueConstant",
+    "JumpIfFalse",
+    "JumpIfFalseConstant",
+    "JumpIfToBooleanTrue",
+    "JumpIfToBooleanTrueConstant",
+    "JumpIfToBooleanFalse",
+    "JumpIfToBooleanFalseConstant",
+    "JumpIfNull",
+    "JumpIfNullConstant",
+    "JumpIfNotNull",
+    "JumpIfNotNullConstant",
+    "JumpIfUndefined",
+    "JumpIfUndefinedConstant",
+    "JumpIfUndefinedOrNull",
+    "JumpIfUndefinedOrNullConstant",
+    "JumpIfNotUndefined",
+    "JumpIfNotUndefinedConstant",
+    "JumpIfJSReceiver",
+    "JumpIfJSReceiverConstant",
+    "JumpIfNotHole",
+    "JumpIfNotHoleConstant",
+    "JumpIfReferenceError",
+    "JumpIfReferenceErrorConstant",
+    "JumpIfNotReferenceError",
+    "JumpIfNotReferenceErrorConstant",
+];
+
+pub const SWITCHES: [&str; 2] = ["SwitchOnSmiNoFeedback", "SwitchOnGeneratorState"];
+
+/// The walk over code that the table's checks have passed, and the refusals from 10 on: `function` is
+/// the object whose pool is meant, `marks` the length of the mark buffer.
+pub fn check(port: &Port, function: usize, code: &[u8], marks: u64) -> Result<Walked, Refusal> {
+    let listed = listed(port, function, code)?;
+    if code.is_empty() {
+        return checks::refuse(19, 0);
+    }
+    if marks < code.len() as u64 {
+        return checks::refuse(18, 0);
+    }
+    Ok(walk(&all_steps(port, function, &listed), code.len()))
+}
+
+/// The listed instructions, after checks 10 to 16.
+pub fn listed(port: &Port, function: usize, code: &[u8]) -> Result<Vec<Instr>, Refusal> {
+    checks::lent_code(code)?;
+    let listed = decode::all(port, code)?;
+    for ins in &listed {
+        checks::switch(port, function, ins)?;
+    }
+    Ok(listed)
+}
+
+pub fn all_steps(port: &Port, function: usize, listed: &[Instr]) -> Steps {
+    listed.iter().map(|ins| (ins.offset, steps(port, function, ins))).collect()
+}
+
+/// The plain name: names hold no dot, so what is behind one is `Wide` or `ExtraWide`.
+pub fn plain(ins: &Instr) -> &str {
+    ins.name.split('.').next().unwrap_or_default()
+}
+
+fn steps(port: &Port, function: usize, ins: &Instr) -> Vec<Step> {
+    let end = Some(ins.offset + ins.bytes.len());
+    let target = || port.disassembler().open_jump_target(function, ins);
+    match plain(ins) {
+        name if ENDS.contains(&name) => Vec::new(),
+        name if ALWAYS.contains(&name) => vec![target()],
+        name if MAYBE.contains(&name) => vec![target(), end],
+        name if SWITCHES.contains(&name) => {
+            let entries = port.disassembler().open_jump_table(function, ins).unwrap_or_default();
+            entries.into_iter().map(|(_, target)| Some(target)).chain([end]).collect()
+        }
+        _ => vec![end],
+    }
+}
+
+/// A step with no target, or to a place where no listed instruction starts, leaves.
+pub fn leaves(steps: &Steps, step: Step) -> bool {
+    !step.is_some_and(|place| steps.contains_key(&place))
+}
+
+fn walk(steps: &Steps, length: usize) -> Walked {
+    // `now` is what is reached in exactly `taken` steps, `reached` what is in at most that many.
+    let mut now = BTreeSet::from([0]);
+    let mut reached = now.clone();
+    let mut taken = 0;
+    let outcome = loop {
+        let from = now.iter().find(|at| steps[*at].iter().any(|step| leaves(steps, *step)));
+        if let Some(from) = from {
+            break Outcome::Leaves { steps: taken + 1, from: *from };
+        }
+        let next: BTreeSet<usize> =
+            now.iter().flat_map(|at| &steps[at]).flatten().copied().collect();
+        // Then a step from what is reached leads to what is reached, and none of them leaves.
+        if next.is_subset(&reached) {
+            break Outcome::Closed;
+        }
+        reached.extend(&next);
+        now = next;
+        taken += 1;
+    };
+    Walked { outcome, marks: (0..length).map(|at| reached.contains(&at)).collect() }
+}
+
+/// Marks as bits, 8 to a byte, the lowest bit first.
+pub fn packed(marks: &[bool]) -> Vec<u8> {
+    let byte = |marks: &[bool]| marks.iter().rev().fold(0, |byte, mark| byte << 1 | *mark as u8);
+    marks.chunks(8).map(byte).collect()
+}
+
+#[cfg(test)]
+mod tests {
+    use super::*;
+    use crate::ask::{ask, Answer, Call, JUMP_TARGET, NO_OBJECT, WALK, WALK_CODE};
+    use crate::port::{STORE, TABLE};
+    use crate::random::Random;
+    use crate::records::*;
+    use crate::sample;
+
+    /// What is said of code in object 0 with this pool, and of the same code lent.
+    fn said(code: &[u8], pool: &[Option<i32>]) -> Answer {
+        let files = sample::function(code, 8, pool);
+        let marks = code.len() as u64;
+        let answer = ask(&files, &[], &Call::new(WALK, &[marks])).unwrap();
+        let lent = ask(&files, code, &Call::new(WALK_CODE, &[0, marks])).unwrap();
+        assert_eq!(answer, lent);
+        answer
+    }
+
+    fn on(code: &[u8]) -> String {
+        said(code, &[]).to_string()
+    }
+
+    #[test]
+    fn rows_of_document_01() {
+        assert_eq!(on(&[0x05, 0x01]), "leaves steps 1 from 0");
+        assert_eq!(on(&[0x00, 0x05, 0x03, 0x00, 0x02]), "leaves steps 2 from 4");
+        assert_eq!(on(&[0x06, 0x02, 0x0b]), "closed");
+        assert_eq!(on(&[0x05, 0x00]), "closed");
+        assert_eq!(on(&[0x06, 0x03, 0x0b]), "leaves steps 1 from 0");
+        let switch = said(&[0x09, 0x00, 0x02, 0x05, 0x0b], &[Some(4), None]);
+        assert_eq!(switch.to_string(), "closed");
+        assert_eq!(on(&[0x02, 0x01]), "refused 12 at 1");
+        assert_eq!(on(&[0x00, 0x0c]), "refused 13 at 0");
+        assert_eq!(on(&[0x0a, 0x05, 0x00, 0xfa]), "refused 15 at 4");
+        assert_eq!(on(&[0x07, 0x03, 0x00]), "leaves steps 1 from 0");
+        assert_eq!(on(&[0x03]), "refused 14 at 1");
+        assert_eq!(on(&[]), "refused 19 at 0");
+        assert_eq!(on(&[0x03, 0x05, 0x04, 0xfa, 0x0b]), "closed");
+    }
+
+    #[test]
+    fn marks() {
+        let marks = |code: &[u8], pool: &[Option<i32>]| match said(code, pool) {
+            Answer::Walked(walked) => packed(&walked.marks),
+            other => panic!("{other}"),
+        };
+        assert_eq!(marks(&[0x06, 0x02, 0x0b], &[]), [0b101]);
+        // LdaZero at 2 is not reached.
+        assert_eq!(marks(&[0x05, 0x03, 0x02, 0x0b], &[]), [0b1001]);
+        // The first leaves in one step; what is reached in one step has no mark.
+        assert_eq!(marks(&[0x06, 0x01, 0x02, 0x0b], &[]), [0b1]);
+        assert_eq!(marks(&[0x00, 0x05, 0x03, 0x00, 0x02], &[]), [0b10001]);
+        let code = [0x02, 0x02, 0x02, 0x02, 0x02, 0x02, 0x02, 0x02, 0x0b, 0x02];
+        assert_eq!(marks(&code, &[]), [0xff, 0b01]);
+    }
+
+    #[test]
+    fn order_of_refusals() {
+        let walk = |files: &Files, code: &[u8], object, marks| {
+            ask(files, code, &Call::new(WALK_CODE, &[object, marks])).unwrap().to_string()
+        };
+        let files = sample::function(&[], 8, &[Some(4)]);
+        assert_eq!(walk(&files, &[0x02], 2, 0), "refused 8 at 0");
+        assert_eq!(walk(&files, &[0x02; 65_537], 0, 0), "refused 10 at 0");
+        assert_eq!(walk(&files, &[0x02, 0x03], 0, 0), "refused 14 at 2");
+        assert_eq!(walk(&files, &[], 0, 0), "refused 19 at 0");
+        assert_eq!(walk(&files, &[0x0b, 0x02], 0, 1), "refused 18 at 0");
+        assert_eq!(walk(&files, &[0x0b, 0x02], 0, 2), "closed");
+        // The count as an Imm: -1 is refused where there is a pool, before the buffer is looked at.
+        let mut files = files;
+        let switch = opcode_record("SwitchOnSmiNoFeedback", 0, &[10, 9, 9]);
+        files.body[OPCODES][9 * 64..10 * 64].copy_from_slice(&switch);
+        let code = [0x0b, 0x09, 0x00, 0xff, 0x00];
+        assert_eq!(walk(&files, &code, 0, 0), "refused 16 at 1");
+        assert_eq!(walk(&files, &code, NO_OBJECT, 0), "refused 18 at 0");
+        assert_eq!(walk(&files, &code, NO_OBJECT, 5), "closed");
+    }
+
+    /// The Rust has a target for each name of the two lists and for no other of V8's jumps.
+    #[test]
+    fn the_list_is_that_of_the_rust() {
+        let target = |name: &str| {
+            let mut files = sample::function(&[], 8, &[Some(3)]);
+            files.body[OPCODES].extend(opcode_record(name, 0, &[10]));
+            let call = Call::new(JUMP_TARGET, &[0, 0]);
+            ask(&files, &[0x0c, 0x00], &call).unwrap() != Answer::Nothing
+        };
+        for name in ALWAYS.iter().chain(&MAYBE) {
+            assert!(target(name), "{name}");
+        }
+        for name in ENDS.iter().chain(&SWITCHES).chain(&["JumpIfForInDone", "JumpIf", "Star"]) {
+            assert!(!target(name), "{name}");
+        }
+        let published = include_str!("../jscd/src/disasm.rs");
+        let from = published.find("match base {").unwrap();
+        let list = &published[from..from + published[from..].find("_ => None").unwrap()];
+        assert_eq!(list.matches("\"Jump").count(), ALWAYS.len() + MAYBE.len());
+    }
+
+    /// The same by distances, lowered until nothing changes.
+    fn by_distances(steps: &Steps, length: usize) -> Walked {
+        let mut distance: BTreeMap<usize, usize> = BTreeMap::from([(0, 0)]);
+        loop {
+            let before = distance.clone();
+            for (at, d) in &before {
+                for to in steps[at].iter().flatten().filter(|to| steps.contains_key(to)) {
+                    let old = distance.get(to).copied().unwrap_or(usize::MAX);
+                    distance.insert(*to, old.min(d + 1));
+                }
+            }
+            if distance == before {
+                break;
+            }
+        }
+        let leaving = |at: &usize| steps[at].iter().any(|step| leaves(steps, *step));
+        let shortest = distance.iter().filter(|(at, _)| leaving(at)).map(|(at, d)| (*d, *at)).min();
+        let (outcome, below) = match shortest {
+            None => (Outcome::Closed, usize::MAX),
+            Some((d, from)) => (Outcome::Leaves { steps: d + 1, from }, d + 1),
+        };
+        let marks = (0..length).map(|at| distance.get(&at).is_some_and(|d| *d < below)).collect();
+        Walked { outcome, marks }
+    }
+
+    #[test]
+    fn distances_say_the_same() {
+        let files = sample::function(&[], 8, &[Some(4), None, Some(-3), Some(2)]);
+        let port = Port::new(&files, TABLE | STORE).unwrap();
+        let mut r = Random::new(1);
+        let mut counts = [0, 0];
+        for _ in 0..60_000 {
+            let length = 1 + r.below(14);
+            let code: Vec<u8> = (0..length).map(|_| r.below(12) as u8).collect();
+            let Ok(listed) = listed(&port, 0, &code) else {
+                continue;
+            };
+            let steps = all_steps(&port, 0, &listed);
+            let walked = walk(&steps, code.len());
+            assert_eq!(walked, by_distances(&steps, code.len()), "{code:02x?}");
+            counts[(walked.outcome == Outcome::Closed) as usize] += 1;
+        }
+        assert!(counts.iter().all(|n| *n > 500), "{counts:?}");
+    }
+}
