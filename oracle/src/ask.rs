@@ -115,6 +115,9 @@ struct Lent<'a> {
     call: &'a Call,
 }
 
+/// What long_listing lends.
+const LONG_OUTPUT: usize = 131_072;
+
 const ON_LAYOUT: u8 = 1 << LAYOUT;
 const ON_CODE: u8 = 1 << OPCODES | 1 << TYPES | 1 << LAYOUT;
 const READS: u8 = STORE | ON_LAYOUT;
@@ -138,6 +141,7 @@ pub const TABLE_CHECK: usize = 15;
 pub const STORE_CHECK: usize = 16;
 pub const INSTRUCTION_TEXT: usize = 17;
 pub const LAST_BYTES: usize = 18;
+pub const LONG_LISTING: usize = 19;
 
 macro_rules! function {
     ($name:literal, $args:expr, $lent:expr) => {
@@ -149,7 +153,7 @@ macro_rules! function {
 }
 
 /// By number. New functions go behind.
-pub const FUNCTIONS: [Function; 19] = [
+pub const FUNCTIONS: [Function; 20] = [
     function!("listing", [], TABLE | STORE, listing),
     function!("raw_at", ["object", "offset", "length"], READS, raw_at),
     function!("array_len", ["object"], READS, array_len),
@@ -169,6 +173,7 @@ pub const FUNCTIONS: [Function; 19] = [
     function!("store_check", [], STORE),
     function!("instruction_text", ["start", "parameters"], TABLE, instruction_text),
     function!("last_bytes", ["start"], ON_CODE, last_bytes),
+    function!("long_listing", [], TABLE | STORE, listing),
 ];
 
 /// An error is a call that cannot be asked: wrong arguments, or not comparable.
@@ -253,7 +258,8 @@ fn listing(lent: &Lent) -> Result<Answer, Refusal> {
         .expect("the code decodes");
     let lines = whole.lines().skip(1).take_while(|l| !l.starts_with("Constant pool"));
     let listing: String = lines.map(|l| format!("{l}\n")).collect();
-    checks::output(listing.len(), checks::PROGRAM_OUTPUT)?;
+    let room = if lent.call.function == LISTING { checks::PROGRAM_OUTPUT } else { LONG_OUTPUT };
+    checks::output(listing.len(), room)?;
     Ok(text(listing))
 }
 

@@ -122,7 +122,7 @@ impl V8Recording {
 }
 
 /// The five table files of a version; there is no store.
-fn tables(folder: &Path) -> Result<Files, String> {
+pub fn tables(folder: &Path) -> Result<Files, String> {
     let mut files = Files::default();
     for file in OPCODES..=LAYOUT {
         let path = folder.join(NAMES[file]);
@@ -158,7 +158,7 @@ fn case(line: &str) -> Option<Case> {
     })
 }
 
-fn hex(digits: &str) -> Option<Vec<u8>> {
+pub fn hex(digits: &str) -> Option<Vec<u8>> {
     let pairs = (0..digits.len()).step_by(2);
     pairs.map(|k| u8::from_str_radix(digits.get(k..k + 2)?, 16).ok()).collect()
 }
