@@ -4,8 +4,9 @@
 //! document 01's numbers. checks: the refusals that the Rust does not have. ask: the answer of one
 //! function. vectors: answers as a file. sample, cases: document 01's sample and rows. recording:
 //! vectors from a seed, out of stores (random ones and their boundaries) and faults, by classes.
-//! code_recording: the same for instructions, out of codes, by the classes in instructions. v8: what
-//! V8 printed, as vectors.
+//! code_recording: the same for instructions, out of codes, by the classes in instructions.
+//! list_recording, jump_recording: the same for whole listings, and for targets and numbers in slots,
+//! out of lists. named: listings with a name. v8, v8_lists: what V8 printed, as vectors.
 
 pub mod ask;
 pub mod cases;

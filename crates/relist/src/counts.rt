@@ -13,8 +13,8 @@ use crate::listings;
 enum Outcome {
     Same,
     Differs,
-    // A function that the program `replay` asks.
-    Elsewhere,
+    // A function that is not asked here.
+    NotHere,
 }
 
 // Calls, differences and the first call that differs, by row (print_name in main names them). A call's number counts from 1 in its file.
@@ -25,7 +25,7 @@ pub struct Counts {
     pub number: u64,
     pub asked: u64,
     pub differing: u64,
-    pub elsewhere: u64,
+    pub not_here: u64,
 }
 
 pub fn ask_file(bytes: &[u8]) -> Counts {
@@ -52,7 +52,7 @@ fn no_counts() -> Counts {
         number: 0,
         asked: 0,
         differing: 0,
-        elsewhere: 0,
+        not_here: 0,
     }
 }
 
@@ -97,7 +97,7 @@ fn asked(bytes: &[u8], files: Files, f: u8, body: Part) -> Outcome {
         8 => judged(jumps::jump_target(bytes, files, call)),
         9 => judged(jumps::jump_table(bytes, files, call)),
         19 => judged(listings::long_listing(bytes, files, call)),
-        1..=18 => Outcome::Elsewhere,
+        1..=18 => Outcome::NotHere,
         _ => Outcome::Differs,
     }
 }
@@ -116,7 +116,7 @@ fn counted(counts: Counts, row: u8, outcome: Outcome) -> Counts {
     match outcome {
         Outcome::Same => with_call(numbered, i),
         Outcome::Differs => with_difference(with_call(numbered, i), i),
-        Outcome::Elsewhere => with_elsewhere(numbered),
+        Outcome::NotHere => with_not_here(numbered),
     }
 }
 
@@ -130,8 +130,8 @@ fn with_number(mut counts: Counts) -> Counts {
     counts
 }
 
-fn with_elsewhere(mut counts: Counts) -> Counts {
-    counts.elsewhere = more(counts.elsewhere);
+fn with_not_here(mut counts: Counts) -> Counts {
+    counts.not_here = more(counts.not_here);
     counts
 }
 

@@ -11,7 +11,16 @@ pub fn listing(bytes: &[u8], files: Files, call: &[u8]) -> bool {
 }
 
 fn listing_in(bytes: &[u8], files: Files, call: &[u8], out: &mut [u8]) -> bool {
-    let n = program::list_text(
+    let n = list(bytes, files, out);
+    if words::byte_at(call, 0) == 2 {
+        return said::is_refusal_line(call, out, n);
+    }
+    said::is_text(call, out, n)
+}
+
+// What the program prints, and its length.
+pub fn list(bytes: &[u8], files: Files, out: &mut [u8]) -> usize {
+    program::list_text(
         out,
         file(bytes, files, 0),
         file(bytes, files, 1),
@@ -21,11 +30,7 @@ fn listing_in(bytes: &[u8], files: Files, call: &[u8], out: &mut [u8]) -> bool {
         file(bytes, files, 5),
         file(bytes, files, 6),
         file(bytes, files, 7),
-    );
-    if words::byte_at(call, 0) == 2 {
-        return said::is_refusal_line(call, out, n);
-    }
-    said::is_text(call, out, n)
+    )
 }
 
 // 19: the listing, in a buffer of 131,072 bytes.

@@ -5,6 +5,7 @@ mod items;
 mod jumps;
 mod listings;
 mod said;
+mod shown;
 
 use counts::Counts;
 use counts::ask_file;
@@ -18,11 +19,11 @@ struct Total {
 }
 
 fn main() {
-    let rows = relist(b"rows.vec");
-    let named = relist(b"named.vec");
-    let list = relist(b"list.vec");
-    let jump = relist(b"jump.vec");
-    let v8 = relist(b"v8list.vec");
+    let named = relist(b"named.vec", true);
+    let rows = relist(b"rows.vec", false);
+    let list = relist(b"list.vec", false);
+    let jump = relist(b"jump.vec", false);
+    let v8 = relist(b"v8list.vec", false);
     let total = both(both(rows, named), both(list, both(jump, v8)));
     io::write_all(STDOUT_FILENO, b"total");
     print_numbers(total.calls, total.differences);
@@ -36,17 +37,17 @@ fn both(a: Total, b: Total) -> Total {
     }
 }
 
-// A file, in a buffer that is longer than any of them.
-fn relist(name: &[u8]) -> Total {
+// A file, in a buffer that is longer than any of them; its listings are printed, or not.
+fn relist(name: &[u8], shows: bool) -> Total {
     let mut buffer = [0u8; 1048576];
-    relist_in(name, &mut buffer)
+    relist_in(name, shows, &mut buffer)
 }
 
-fn relist_in(name: &[u8], buffer: &mut [u8; 1048576]) -> Total {
-    relist_with(name, buffer)
+fn relist_in(name: &[u8], shows: bool, buffer: &mut [u8; 1048576]) -> Total {
+    relist_with(name, shows, buffer)
 }
 
-fn relist_with(name: &[u8], buffer: &mut [u8]) -> Total {
+fn relist_with(name: &[u8], shows: bool, buffer: &mut [u8]) -> Total {
     let fd = os::open_read(name);
     if fd < 0 {
         os::fail(name);
@@ -63,6 +64,9 @@ fn relist_with(name: &[u8], buffer: &mut [u8]) -> Total {
         io::write_all(STDERR_FILENO, b": too long\n");
         return nothing();
     }
+    if shows {
+        shown::show_file(&buffer[..n]);
+    }
     print_counts(name, ask_file(&buffer[..n]))
 }
 
@@ -77,8 +81,8 @@ fn print_counts(name: &[u8], counts: Counts) -> Total {
     io::write_all(STDOUT_FILENO, name);
     io::write_all(STDOUT_FILENO, b"\n");
     print_functions(counts);
-    io::write_all(STDOUT_FILENO, b"left to replay: ");
-    io::print_decimal(STDOUT_FILENO, counts.elsewhere);
+    io::write_all(STDOUT_FILENO, b"not asked here: ");
+    io::print_decimal(STDOUT_FILENO, counts.not_here);
     io::write_all(STDOUT_FILENO, b"\n");
     Total {
         calls: counts.asked,
