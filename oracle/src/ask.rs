@@ -121,6 +121,9 @@ struct Lent<'a> {
     call: &'a Call,
 }
 
+/// What long_listing lends.
+const LONG_OUTPUT: usize = 131_072;
+
 const ON_LAYOUT: u8 = 1 << LAYOUT;
 const ON_CODE: u8 = 1 << OPCODES | 1 << TYPES | 1 << LAYOUT;
 const READS: u8 = STORE | ON_LAYOUT;
@@ -147,6 +150,7 @@ pub const LAST_BYTES: usize = 18;
 pub const WALK: usize = 19;
 pub const WALK_CODE: usize = 20;
 pub const WALK_LAST_BYTES: usize = 21;
+pub const LONG_LISTING: usize = 22;
 
 macro_rules! function {
     ($name:literal, $args:expr, $lent:expr) => {
@@ -158,7 +162,7 @@ macro_rules! function {
 }
 
 /// By number. New functions go behind.
-pub const FUNCTIONS: [Function; 22] = [
+pub const FUNCTIONS: [Function; 23] = [
     function!("listing", [], TABLE | STORE, listing),
     function!("raw_at", ["object", "offset", "length"], READS, raw_at),
     function!("array_len", ["object"], READS, array_len),
@@ -181,6 +185,7 @@ pub const FUNCTIONS: [Function; 22] = [
     function!("walk", ["marks"], TABLE | STORE, walk),
     function!("walk_code", ["object", "marks"], ON_CODE, walk_code),
     function!("walk_last_bytes", ["object", "prefixes"], ON_CODE, walk_last_bytes),
+    function!("long_listing", [], TABLE | STORE, listing),
 ];
 
 /// Functions whose first argument is the object that lends its pool, or none.
@@ -275,7 +280,8 @@ fn listing(lent: &Lent) -> Result<Answer, Refusal> {
         .expect("the code decodes");
     let lines = whole.lines().skip(1).take_while(|l| !l.starts_with("Constant pool"));
     let listing: String = lines.map(|l| format!("{l}\n")).collect();
-    checks::output(listing.len(), checks::PROGRAM_OUTPUT)?;
+    let room = if lent.call.function == LISTING { checks::PROGRAM_OUTPUT } else { LONG_OUTPUT };
+    checks::output(listing.len(), room)?;
     Ok(text(listing))
 }
 

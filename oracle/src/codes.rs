@@ -234,7 +234,7 @@ pub fn code(r: &mut Random, files: &Files) -> Code {
     out
 }
 
-fn instruction(r: &mut Random, files: &Files, out: &mut Vec<u8>) {
+pub fn instruction(r: &mut Random, files: &Files, out: &mut Vec<u8>) {
     let mut scale = 1;
     let prefix = match r.below(3) {
         0 => None,

@@ -4,8 +4,10 @@
 //! document 01's numbers. checks: the refusals that the Rust does not have. ask: the answer of one
 //! function. vectors: answers as a file. sample, cases: document 01's sample and rows. recording:
 //! vectors from a seed, out of stores (random ones and their boundaries) and faults, by classes.
-//! code_recording: the same for instructions, out of codes, by the classes in instructions. v8: what
-//! V8 printed, as vectors. walks: the walk check from document 01, with vectors in walk_*.
+//! code_recording: the same for instructions, out of codes, by the classes in instructions.
+//! list_recording, jump_recording: the same for whole listings, and for targets and numbers in slots,
+//! out of lists. named: listings with a name. v8, v8_lists: what V8 printed, as vectors.
+//! walks: the walk check from document 01, with vectors in walk_*.
 
 pub mod ask;
 pub mod cases;
@@ -16,6 +18,10 @@ pub mod codes;
 pub mod decode;
 pub mod faults;
 pub mod instructions;
+pub mod jump_recording;
+pub mod list_recording;
+pub mod lists;
+pub mod named;
 pub mod port;
 pub mod random;
 pub mod recording;
@@ -23,6 +29,7 @@ pub mod records;
 pub mod sample;
 pub mod stores;
 pub mod v8;
+pub mod v8_lists;
 pub mod vectors;
 pub mod walk_classes;
 pub mod walk_codes;

@@ -140,14 +140,16 @@ mod tests {
         assert_eq!(vectors::replay(&recording.writer.out), Ok(recording.writer.calls));
     }
 
-    /// The crate `replay` has copies of the recorded files.
+    /// The crates `replay` and `relist` have copies of the recorded files.
     #[test]
     fn copies_are_current() {
         let oracle = std::path::Path::new(env!("CARGO_MANIFEST_DIR"));
-        for name in ["rows.vec", "store.vec", "code.vec", "v8.vec"] {
+        let replay = ["rows.vec", "store.vec", "code.vec", "v8.vec"].map(|name| ("replay", name));
+        let relist = ["rows.vec", "named.vec", "list.vec", "jump.vec", "v8list.vec"];
+        for (held, name) in replay.into_iter().chain(relist.map(|name| ("relist", name))) {
             let recorded = std::fs::read(oracle.join("recorded").join(name)).unwrap();
-            let copy = std::fs::read(oracle.join("../crates/replay/data").join(name)).unwrap();
-            assert!(recorded == copy, "{name}");
+            let copy = oracle.join("../crates").join(held).join("data").join(name);
+            assert!(recorded == std::fs::read(copy).unwrap(), "{held} {name}");
         }
     }
 

@@ -21,7 +21,7 @@ use store::SlotValue;
 pub enum Outcome {
     Same,
     Differs,
-    NotYet,
+    NotHere,
 }
 
 // A call of function f, whose body is a part of the vector file.
@@ -41,7 +41,7 @@ pub fn replayed(bytes: &[u8], files: Files, f: u8, body: Part) -> Outcome {
         16 => judged(store_check(bytes, files, call)),
         17 => judged(instructions::instruction_text(bytes, files, call)),
         18 => judged(instructions::last_bytes(bytes, files, call)),
-        0..=10 => Outcome::NotYet,
+        0..=10 => Outcome::NotHere,
         _ => Outcome::Differs,
     }
 }

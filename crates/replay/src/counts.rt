@@ -18,7 +18,7 @@ pub struct Counts {
     pub number: u64,
     pub replayed: u64,
     pub differing: u64,
-    pub not_yet: u64,
+    pub not_here: u64,
 }
 
 pub fn replay_file(bytes: &[u8]) -> Counts {
@@ -45,7 +45,7 @@ fn no_counts() -> Counts {
         number: 0,
         replayed: 0,
         differing: 0,
-        not_yet: 0,
+        not_here: 0,
     }
 }
 
@@ -71,7 +71,7 @@ fn counted(counts: Counts, f: u8, outcome: Outcome) -> Counts {
     match outcome {
         Outcome::Same => with_call(numbered, row(f)),
         Outcome::Differs => with_difference(with_call(numbered, row(f)), row(f)),
-        Outcome::NotYet => with_not_yet(numbered),
+        Outcome::NotHere => with_not_here(numbered),
     }
 }
 
@@ -89,8 +89,8 @@ fn with_number(mut counts: Counts) -> Counts {
     counts
 }
 
-fn with_not_yet(mut counts: Counts) -> Counts {
-    counts.not_yet = more(counts.not_yet);
+fn with_not_here(mut counts: Counts) -> Counts {
+    counts.not_here = more(counts.not_here);
     counts
 }
 

@@ -75,8 +75,8 @@ fn print_counts(name: &[u8], counts: Counts) -> Total {
     io::write_all(STDOUT_FILENO, name);
     io::write_all(STDOUT_FILENO, b"\n");
     print_functions(counts);
-    io::write_all(STDOUT_FILENO, b"not replayed yet: ");
-    io::print_decimal(STDOUT_FILENO, counts.not_yet);
+    io::write_all(STDOUT_FILENO, b"not asked here: ");
+    io::print_decimal(STDOUT_FILENO, counts.not_here);
     io::write_all(STDOUT_FILENO, b"\n");
     Total {
         calls: counts.replayed,

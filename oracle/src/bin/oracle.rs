@@ -7,6 +7,7 @@ use oracle::port::{Port, STORE, TABLE};
 use oracle::records::Files;
 use oracle::vectors::{self, Writer};
 use oracle::{cases, code_recording, instructions, recording, sample, v8};
+use oracle::{jump_recording, list_recording, named, v8_lists};
 use oracle::{walk_classes, walk_recording, walk_short, walk_v8};
 use std::path::Path;
 use std::process::ExitCode;
@@ -20,7 +21,11 @@ const USAGE: &str = "usage:
   oracle record OUT                   write the vectors of these rows
   oracle record-store SEED OUT        write vectors of stores and tables, and count their classes
   oracle record-code SEED OUT         write vectors of instructions, and count their classes
+  oracle record-list SEED OUT         write vectors of whole listings, and count their classes
+  oracle record-jump SEED OUT         the same for targets, entries, numbers in slots, max_register
   oracle record-v8 FOLDER OUT         write vectors of what V8 printed (v8-listings), and count them
+  oracle record-v8-list FOLDER OUT    write vectors of V8's whole listings, and count them
+  oracle record-named OUT             write vectors of some named listings, and print them
   oracle replay FILE                  ask every call of a vector file again
   oracle record-walk SEED OUT..       write vectors of the walk (five files), and count their classes
   oracle record-walk-short OUT        write vectors of the walk over all short codes
@@ -43,6 +48,10 @@ fn main() -> ExitCode {
         ["record", out] => record(out),
         ["record-store", seed, out] => record_store(seed, out),
         ["record-code", seed, out] => record_code(seed, out),
+        ["record-list", seed, out] => record_list(seed, out),
+        ["record-jump", seed, out] => record_jump(seed, out),
+        ["record-named", out] => record_named(out),
+        ["record-v8-list", folder, out] => record_v8_list(Path::new(folder), out),
         ["record-v8", folder, out] => record_v8(Path::new(folder), out),
         ["replay", file] => replay(file),
         ["record-walk", seed, out @ ..] => record_walk(seed, out),
@@ -141,6 +150,16 @@ fn record_code(seed: &str, out: &str) -> Result<bool, String> {
     classified(out, &recording.writer, &recording.classes, &instructions::wanted())
 }
 
+fn record_list(seed: &str, out: &str) -> Result<bool, String> {
+    let recording = list_recording::record(word(seed)?)?;
+    classified(out, &recording.writer, &recording.classes, &list_recording::wanted())
+}
+
+fn record_jump(seed: &str, out: &str) -> Result<bool, String> {
+    let recording = jump_recording::record(word(seed)?)?;
+    classified(out, &recording.writer, &recording.classes, &jump_recording::wanted())
+}
+
 /// Writes vectors and prints their classes; false where a wanted class has no case.
 fn classified(
     out: &str,
@@ -164,6 +183,22 @@ fn record_v8(folder: &Path, out: &str) -> Result<bool, String> {
     std::fs::write(out, &vectors.out).map_err(|e| format!("{out}: {e}"))?;
     print!("{}", recording.report());
     println!("{} calls, {} bytes", vectors.calls, vectors.out.len());
+    Ok(true)
+}
+
+fn record_v8_list(folder: &Path, out: &str) -> Result<bool, String> {
+    let recording = v8_lists::record(folder)?;
+    let vectors = &recording.writer;
+    std::fs::write(out, &vectors.out).map_err(|e| format!("{out}: {e}"))?;
+    print!("{}", recording.report());
+    println!("{} calls, {} bytes", vectors.calls, vectors.out.len());
+    Ok(recording.differences.is_empty())
+}
+
+fn record_named(out: &str) -> Result<bool, String> {
+    let recording = named::record()?;
+    std::fs::write(out, &recording.writer.out).map_err(|e| format!("{out}: {e}"))?;
+    print!("{}", recording.report);
     Ok(true)
 }
 

@@ -1,0 +1,70 @@
+-- `are_entries` ends: the measure is the number of entries that are left.
+use Prim.Native.Nat.{_-_}
+use borrow.Author.Needs.{needs}
+use Rattle.relist.proofs.jumps.are_entries.Statement.{statement}
+use Rattle.relist.proofs.jumps.are_entries.Tie as tie
+
+abbrev Inv-loop : tie.InvT-loop
+Inv-loop bytes pool said here entries slots payload ts seen₀ k₀ seen k = Unit {0}
+
+abbrev μ-loop : tie.MeasureT-loop
+μ-loop bytes pool said here entries slots payload ts seen₀ k₀ seen k = entries .count - k
+
+file-requires : tie.Need-file-requires Inv-loop μ-loop
+file-requires c κs = search needs
+
+layout-of-requires : tie.Need-layout-of-requires Inv-loop μ-loop
+layout-of-requires c κs = search needs
+
+file-requires-2 : tie.Need-file-requires-2 Inv-loop μ-loop
+file-requires-2 c κs = search needs
+
+file-requires-3 : tie.Need-file-requires-3 Inv-loop μ-loop
+file-requires-3 c κs = search needs
+
+none-seen-requires : tie.Need-none-seen-requires Inv-loop μ-loop
+none-seen-requires c κs = search needs
+
+loop-holds : tie.Need-loop-holds Inv-loop μ-loop
+loop-holds c = search needs
+
+entry-at-requires : tie.Need-entry-at-requires Inv-loop μ-loop
+entry-at-requires c κs = search needs
+
+seen-after-requires : tie.Need-seen-after-requires Inv-loop μ-loop
+seen-after-requires c κs = search needs
+
+add-k : tie.Need-add-k Inv-loop μ-loop
+add-k c = search needs
+
+loop-less : tie.Need-loop-less Inv-loop μ-loop
+loop-less c = search needs
+
+loop-again : tie.Need-loop-again Inv-loop μ-loop
+loop-again c = search needs
+
+is-all-requires : tie.Need-is-all-requires Inv-loop μ-loop
+is-all-requires c κs = search needs
+
+returns : tie.Need-returns Inv-loop μ-loop
+returns c = search needs
+
+pub are-entries-spec : {M : Type 1} → statement M
+are-entries-spec =
+    tie.close
+    (tie.spec
+    Inv-loop
+    μ-loop
+    file-requires
+    layout-of-requires
+    file-requires-2
+    file-requires-3
+    none-seen-requires
+    loop-holds
+    entry-at-requires
+    seen-after-requires
+    add-k
+    loop-less
+    loop-again
+    is-all-requires
+    returns)
