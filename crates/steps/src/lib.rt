@@ -33,14 +33,7 @@ pub struct Way {
 }
 
 // Where an instruction goes.
-pub fn way_of(
-    slots: &[u8],
-    payload: &[u8],
-    ts: u8,
-    pool: Pool,
-    flow: Flow,
-    instr: Instr,
-) -> Way
+pub fn way_of(slots: &[u8], payload: &[u8], ts: u8, pool: Pool, flow: Flow, instr: Instr) -> Way
     ensures { λ r. ⌜ r ≡ wayOf (poolSearched (now (slots .entry)) (now (payload .entry)) ts pool) (found pool) flow instr ⌝ }
 {
     let kind = flow.kind;

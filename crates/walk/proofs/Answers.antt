@@ -1,0 +1,125 @@
+-- From what the search answers to the call's equation, and from the equation to demand 3. Assumes nothing.
+use Prim.Native.Nat.{ℕ, zero, suc, _<_, _≤_}
+use mathlib.Core.Path.{_≡_, refl, sym, ap, subst, _∙_}
+use mathlib.Core.Bool.{Bool, true, false}
+use mathlib.Core.List.{List, [], _∷_, _++_, append-nil}
+use native.Mathlib.Omega.{arith}
+use borrow.Author.Tests.{lt-ltb, le-ltb, le-leb, lt-leb, leb-true, ltb-true}
+use lib.Dec.{leb, ltb}
+use lib.ListN.{length, drop, drop-of-length-le}
+use Rattle.refusal.specs.declared.Refusal.{Refusal}
+use Rattle.refusal.specs.declared.Check.{Check}
+use Rattle.refusal.specs.declared.Check.the-variants.{Ok, Refused}
+use Rattle.refusal.specs.Check.{refusalAt, orElse, unlessGood}
+use Rattle.decoder.specs.declared.Outcome.{Outcome}
+use Rattle.decoder.specs.declared.Decoded.{Decoded}
+use Rattle.decoder.specs.Listed.{Listing, listOn, listFrom, decodes}
+use Rattle.disasm.specs.Lines.{codeCheck, switchCheck, listingCheck}
+use Rattle.disasm.proofs.Searched.{or-left, or-right}
+use Rattle.graph.specs.Graph.{Good, Finding, Claim, finding, markList}
+use Rattle.graph.specs.Graph.Finding.{closed, leaves}
+use Rattle.graph.specs.Right.{Answer}
+use Rattle.graph.proofs.Findings.{finding-meets}
+use Rattle.graph.proofs.Answers.{found}
+use Rattle.graph.proofs.Same.{answer-same}
+use Rattle.steps.specs.Steps.{Source, listing, walkGraph}
+use Rattle.steps.specs.Ways.{searchGraph}
+use Rattle.steps.proofs.Same.{search-less, less-search, walk-good, search-good}
+use Rattle.walk.specs.declared.Walked.{Walked}
+use Rattle.walk.specs.declared.Walked.the-variants as walked
+use Rattle.walk.specs.Walk.{answer, roomCheck, walkCheck, walkFound, unless, walkSource, WalkedAs, Promise}
+use Rattle.walk.specs.Search.{Answered}
+
+never : {A : Type 0} (r : Refusal) → Refused r ≡ Ok → A
+never r e = let z : _≡_ {A = ℕ} 0 1 = cc in absurd (omega arith)
+
+-- a listing that no fault ended came to the code's end
+list-ends : (d : ℕ → Decoded) (f at : ℕ) → codeCheck (listFrom d f at .outcome) ≡ Ok → listFrom d f at .outcome ≡ Outcome.End
+unfolding listFrom
+list-ends d zero at ok = refl
+list-ends d (suc f) at ok = go (d at .outcome) ok (list-ends d f (d at .instr .end))
+  where
+    go : (o : Outcome) → codeCheck (listOn o (d at .instr) (listFrom d f (d at .instr .end)) .outcome) ≡ Ok
+        → (codeCheck (listFrom d f (d at .instr .end) .outcome) ≡ Ok → listFrom d f (d at .instr .end) .outcome ≡ Outcome.End)
+        → listOn o (d at .instr) (listFrom d f (d at .instr .end)) .outcome ≡ Outcome.End
+    go Outcome.End ok rest = refl
+    go (Outcome.Refused r) ok rest = never r ok
+    go Outcome.Done ok rest = rest ok
+
+pub good-is : (b : Bool) (n : ℕ) → unlessGood b n ≡ Ok → b ≡ true
+good-is true n h = refl
+good-is false n h = never (refusalAt n 0) h
+
+-- of no marks none are left over
+no-rest : (n : ℕ) (l : List ℕ) → l ++ drop n [] ≡ l
+no-rest n l = ap (λ (x : List ℕ). l ++ x) (drop-of-length-le [] {i = n} (omega arith)) ∙ append-nil l
+
+module _ (s : Source) where
+  abbrev marks : List ℕ
+  marks = markList (walkGraph s) (finding (walkGraph s)) (length (s .code))
+
+  abbrev whole : Check
+  whole = listingCheck (s .opcodes) (s .pooled) (listing s)
+
+  pub no-fault : whole ≡ Ok → codeCheck (listing s .outcome) ≡ Ok
+  no-fault ok = or-left (codeCheck (listing s .outcome)) _ ok
+
+  pub ended : whole ≡ Ok → listing s .outcome ≡ Outcome.End
+  ended ok = list-ends (decodes (s .code) (s .opcodes) (s .types) (s .rfs)) (suc (length (s .code))) 0 (no-fault ok)
+
+  -- ---- the search
+  module _ (end : listing s .outcome ≡ Outcome.End) (some : 0 < length (s .code)) where
+    right : {M : List ℕ} {f : Finding} → length M ≡ length (s .code) → Answer (searchGraph s) (length (s .code)) M f → WalkedAs (walkFound s []) (answer f) M
+    right len a =
+        let x = found (walk-good s end some) len (answer-same (search-good s end some) (walk-good s end some) (search-less s) (less-search s) a) in
+        (ap answer (x .0), x .1 ∙ sym (no-rest (length (s .code)) marks))
+
+    pub searched : (M : List ℕ) (r : Walked) → length M ≡ length (s .code) → Answered (searchGraph s) (length (s .code)) M r → WalkedAs (walkFound s []) r M
+    searched M walked.Closed len a = right len a
+    searched M (walked.Leaves n o) len a = right len a
+    searched M (walked.Refused r) len a = absurd a
+
+  -- ---- the call, by what the pass said
+  module _ (M : List ℕ) where
+    pub source-refused : (r : Refusal) → Refused r ≡ whole → WalkedAs (walkSource s M) (walked.Refused r) M
+    unfolding walkSource
+    source-refused r e = rw (sym e) (refl, refl)
+
+    module _ (ok : Ok ≡ whole) where
+      pub source-empty : length (s .code) ≡ 0 → WalkedAs (walkSource s M) (walked.Refused (refusalAt 19 0)) M
+      unfolding walkSource
+      source-empty e = rw (sym ok, le-ltb 0 (length (s .code)) (omega arith)) (refl, refl)
+
+      module _ (some : length (s .code) ≡ 0 → ⊥) where
+        pub source-short : length M < length (s .code) → WalkedAs (walkSource s M) (walked.Refused (refusalAt 18 0)) M
+        unfolding walkSource
+        source-short h = rw (sym ok, lt-ltb 0 (length (s .code)) (omega arith), lt-leb (length (s .code)) (length M) h) (refl, refl)
+
+        -- marks Y were searched by themselves, and stand in front of the rest again
+        pub source-found : (r : Walked) (Y : List ℕ) → length (s .code) ≤ length M → WalkedAs (walkFound s []) r Y → WalkedAs (walkSource s M) r (Y ++ drop (length (s .code)) M)
+        unfolding walkSource
+        source-found r Y h w =
+            rw (sym ok, lt-ltb 0 (length (s .code)) (omega arith), le-leb (length (s .code)) (length M) h)
+            (w .0, ap (λ (y : List ℕ). y ++ drop (length (s .code)) M) (w .1 ∙ no-rest (length (s .code)) marks))
+
+  -- ---- demand 3
+  met : (f : Finding) → Claim (walkGraph s) f → Promise s (answer f)
+  met closed c = c
+  met (leaves n o) c = c
+
+  pub promised : (M : List ℕ) (r : Walked) → r ≡ walkSource s M .0 → Promise s r
+  unfolding walkSource
+  promised M r e = subst (Promise s) (sym e) (go (walkCheck s (length M)) refl)
+    where
+      go : (c : Check) → walkCheck s (length M) ≡ c → Promise s (unless c M (walkFound s M) .0)
+      go (Refused x) h = tt
+      go Ok h =
+          let room = or-right whole (roomCheck (length (s .code)) (length M)) h in
+          let some = ltb-true 0 (length (s .code)) (good-is (ltb 0 (length (s .code))) 19 (or-left (unlessGood (ltb 0 (length (s .code))) 19) _ room)) in
+          met (finding (walkGraph s)) (finding-meets (walk-good s (ended (or-left whole _ h)) some))
+
+-- ---- the calls
+-- what a refusal before the code is looked at, or the code's own answer, promises
+pub promise-unless : (s : Source) (c : Check) (M : List ℕ) (r : Walked) → r ≡ unless c M (walkSource s M) .0 → Promise s r
+promise-unless s Ok M r e = promised s M r e
+promise-unless s (Refused x) M r e = subst (Promise s) (sym e) tt

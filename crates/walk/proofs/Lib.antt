@@ -1,0 +1,4 @@
+pub mod Laws
+pub mod Starts
+pub mod Answers
+pub mod Searched

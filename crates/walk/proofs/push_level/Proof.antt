@@ -1,0 +1,112 @@
+use Prim.Native.Nat.{ℕ, _-_, _≤_}
+use mathlib.Core.Path.{_≡_, refl, sym, ap, _∙_, subst}
+use native.Mathlib.Nat.{le-refl}
+use native.Mathlib.Omega.{arith}
+use borrow.Author.Needs.{needs}
+use denote.Ref.{now}
+use lib.ListN.{length}
+use Rattle.graph.specs.Graph.{Graph, exits}
+use Rattle.graph.specs.Queue.{Grown, SuccIn}
+use Rattle.graph.proofs.Queues.{grown-none, held-le}
+use Rattle.graph.proofs.Scan.{level-more}
+use Rattle.walk.specs.Search.{graphOf}
+use Rattle.walk.proofs.push_level.Statement.{statement}
+use Rattle.walk.proofs.push_level.Tie as tie
+use Rattle.walk.proofs.push_level.Reads as reads
+use Rattle.walk.proofs.push_level.Lts as lts
+use Rattle.walk.proofs.push_steps.Reads as push-steps-reads
+use Rattle.walk.proofs.wide32.Reads as wide32-reads
+
+abbrev Inv-loop : tie.InvT-loop
+Inv-loop code opcodes types slots payload flows setup marks₀ queue₀ lo hi end₀ i₀ marks queue end i = (lo ≤ i) × (i ≤ hi) × Grown queue₀ hi marks queue end (SuccIn (graphOf code opcodes types slots payload setup) queue₀ lo i) × (length marks ≡ length marks₀) × (length queue ≡ length queue₀)
+
+abbrev μ-loop : tie.MeasureT-loop
+μ-loop code opcodes types slots payload flows setup marks₀ queue₀ lo hi end₀ i₀ marks queue end i = hi - i
+
+-- src/lib.rt:255:5
+loop-holds : tie.Need-loop-holds Inv-loop μ-loop
+loop-holds c = (le-refl _, c .before .before .before .before .before .before .before .before .pre .2, grown-none (c .before .before .before .before .before .before .before .before .pre .0) (λ p x. absurd (omega (arith, x .1, x .2))), refl, refl)
+
+-- src/lib.rt:256:24
+mul-wide32 : tie.Need-mul-wide32 Inv-loop μ-loop
+mul-wide32 c = let s = c .before .before .before .before .before .before .before .before .before .before in omega (arith, held-le (s .pre .0), s .pre .0 .small, c .loop-test .taken)
+
+-- src/lib.rt:256:24
+slice-read-wide32 : tie.Need-slice-read-wide32 Inv-loop μ-loop
+slice-read-wide32 c = let s = c .before .before .before .before .before .before .before .before .before .before .before in omega (arith, held-le (s .pre .0), s .pre .0 .room, c .before .loop-test .taken, c .before .before .loop .inv .4)
+
+-- src/lib.rt:256:13
+wide32-requires : tie.Need-wide32-requires Inv-loop μ-loop
+wide32-requires c κs = search needs
+
+abbrev start : tie.At-loop Inv-loop μ-loop → tie.Start Inv-loop μ-loop
+start i = i .before .before .before .before .before .before .before .before .before
+
+abbrev the-graph : tie.At-loop Inv-loop μ-loop → Graph
+the-graph i = let a = start i .args in graphOf (now (a .code)) (now (a .opcodes)) (now (a .types)) (now (a .slots)) (now (a .payload)) (a .setup)
+
+-- src/lib.rt:257:9
+push-steps-requires : tie.Need-push-steps-requires Inv-loop μ-loop
+push-steps-requires c κs =
+    let i = c .before .before .before .before .before in
+    let s = start i in
+    let h = c .before .before .before .before .loop-test .taken in (
+      i .loop .inv .2 .held,
+      i .loop .inv .3 ∙ s .pre .1,
+      ap (exits (the-graph i)) (c .before .before .wide32 .ensures ∙ i .loop .inv .2 .kept (i .loop .i) h) ∙ s .pre .3 (i .loop .i) (i .loop .inv .0) h,
+      s .pre .4,
+    )
+
+-- src/lib.rt:260:9
+add-i : tie.Need-add-i Inv-loop μ-loop
+add-i c = omega (arith, c .before .before .before .before .before .before .before .before .before .loop-test .taken)
+
+-- src/lib.rt:255:5
+loop-less : tie.Need-loop-less Inv-loop μ-loop
+loop-less c = omega (arith, c .before .before .before .before .before .before .before .before .before .loop-test .taken)
+
+-- src/lib.rt:255:5
+loop-again : tie.Need-loop-again Inv-loop μ-loop
+loop-again c =
+    let i = c .before .before .before .before .before .before .before .before .before .before in
+    let h = c .before .before .before .before .before .before .before .before .before .loop-test .taken in (
+      omega (arith, i .loop .inv .0),
+      omega (arith, h),
+      level-more (the-graph i) _ _ _ (c .before .before .before .before .before .before .before .wide32 .ensures) (i .loop .inv .0) h (i .loop .inv .2) (c .before .before .before .before .push-steps .ensures),
+      c .before .before .before .before .push-steps .kept .1 .1 .1 .1 .1 .1 .1 .1 .0 ∙ i .loop .inv .3,
+      c .before .before .before .before .push-steps .kept .1 .1 .1 .1 .1 .1 .1 .1 .1 .0 ∙ i .loop .inv .4,
+    )
+
+-- src/lib.rt:237:1
+same-length : tie.Need-same-length Inv-loop μ-loop
+same-length c = c .before .loop .inv .3
+
+-- src/lib.rt:237:1
+same-length-2 : tie.Need-same-length-2 Inv-loop μ-loop
+same-length-2 c = c .before .loop .inv .4
+
+-- src/lib.rt:237:1
+returns : tie.Need-returns Inv-loop μ-loop
+returns c =
+    let i = c .before in
+    let s = start i in
+    let e : i .loop .i ≡ s .args .hi = omega (arith, i .loop .inv .1, c .loop-test .left) in
+    subst (λ (k : ℕ). Grown (now (s .args .queue)) (s .args .hi) (i .loop .marks) (i .loop .queue) (i .loop .end) (SuccIn (the-graph i) (now (s .args .queue)) (s .args .lo) k)) e (i .loop .inv .2)
+
+pub push-level-spec : {M : Type 1} → statement M
+push-level-spec =
+    tie.close
+    (tie.spec
+    Inv-loop
+    μ-loop
+    loop-holds
+    mul-wide32
+    slice-read-wide32
+    wide32-requires
+    push-steps-requires
+    add-i
+    loop-less
+    loop-again
+    same-length
+    same-length-2
+    returns)

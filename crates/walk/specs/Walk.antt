@@ -1,0 +1,97 @@
+-- The walk check: all of document 01's rows, the answer, and the marks behind it. Walks, what is found and what is marked are in crate graph,
+-- the steps of an instruction in crate steps.
+use Prim.Native.Nat.{ℕ}
+use mathlib.Core.Path.{_≡_}
+use mathlib.Core.List.{List, [], _++_}
+use lib.Dec.{leb, ltb}
+use lib.ListN.{length, take, drop}
+use Rattle.refusal.specs.declared.Check.{Check}
+use Rattle.refusal.specs.declared.Check.the-variants.{Ok, Refused}
+use Rattle.refusal.specs.Check.{orElse, unlessGood}
+use Rattle.store.specs.Records.{objectOf}
+use Rattle.tables.specs.Layout.{layoutOf}
+use Rattle.header.specs.declared.HeaderAt.{HeaderAt}
+use Rattle.header.specs.declared.HeaderAt.the-variants as header-at
+use Rattle.header.specs.Header.{headerOf}
+use Rattle.targets.specs.declared.Pool.{Pool}
+use Rattle.targets.specs.Targets.{poolElem, found}
+use Rattle.disasm.specs.Lines.{listingCheck}
+use Rattle.disasm.specs.Listing.{Files, poolOf, checkFiles}
+use Rattle.jumps.specs.declared.Owner.{Owner}
+use Rattle.jumps.specs.Jumps.{checkLent, ownerPool}
+use Rattle.graph.specs.Graph.{Finding, Closed, Leaves, finding, markList}
+use Rattle.graph.specs.Graph.Finding.{closed, leaves}
+use Rattle.steps.specs.Steps.{Source, listing, walkGraph}
+use Rattle.walk.specs.declared.Walked.{Walked}
+use Rattle.walk.specs.declared.Walked.the-variants as walked
+
+-- a finding as an answer
+abbrev pub answer : Finding → Walked
+answer closed = walked.Closed
+answer (leaves n o) = walked.Leaves n o
+
+-- 19: "code is empty"; 18: "mark buffer shorter than the code"
+abbrev pub roomCheck : ℕ → ℕ → Check
+roomCheck n room = orElse (unlessGood (ltb 0 n) 19) (unlessGood (leb n room) 18)
+
+-- 11 to 16, 19 and 18
+abbrev pub walkCheck : Source → ℕ → Check
+walkCheck s room = orElse (listingCheck (s .opcodes) (s .pooled) (listing s)) (roomCheck (length (s .code)) room)
+
+-- the answer, and the marks behind it: "further marks are unchanged"
+abbrev pub walkFound : Source → List ℕ → Walked × List ℕ
+walkFound s marks = let g = walkGraph s in (answer (finding g), markList g (finding g) (length (s .code)) ++ drop (length (s .code)) marks)
+
+abbrev pub unless : Check → List ℕ → Walked × List ℕ → Walked × List ℕ
+unless Ok marks a = a
+unless (Refused r) marks a = (walked.Refused r, marks)
+
+-- the walks of a code whose files are good
+unfoldable pub walkSource : Source → List ℕ → Walked × List ℕ
+walkSource s marks = unless (walkCheck s (length marks)) marks (walkFound s marks)
+
+-- an answer r and marks M are those of a call
+abbrev pub WalkedAs : Walked × List ℕ → Walked → List ℕ → Type 0
+WalkedAs a r M = (r ≡ a .0) × (M ≡ a .1)
+
+-- Demand 3, of an answer: "closed" means that no walk of any length leaves; else some walk leaves from there in exactly that many steps, no
+-- walk leaves in fewer, none with as many from a lower offset.
+abbrev pub Promise : Source → Walked → Type 0
+Promise s walked.Closed = Closed (walkGraph s)
+Promise s (walked.Leaves n o) = Leaves (walkGraph s) n o
+Promise s (walked.Refused r) = Unit {0}
+
+-- ---- the walks of an object
+-- code, with the files and a pool
+abbrev pub sourceWith : Files → List ℕ → Pool → Source
+sourceWith f code p =
+    let l = layoutOf (f .layout) in
+    record { code = code; opcodes = f .opcodes; types = f .types; rfs = l .frame .«reg_file_start»; pooled = found p; elem = poolElem (f .slots) (f .payload) (l .«tagged_size») p }
+
+-- the code of a header; of one that is refused there is none
+abbrev pub codeOf : Files → HeaderAt → List ℕ
+codeOf f (header-at.At h) = take (h .«code_len») (drop (h .«code_at») (f .payload))
+codeOf f (header-at.Refused r) = []
+
+abbrev pub headerCheck : HeaderAt → Check
+headerCheck (header-at.At h) = Ok
+headerCheck (header-at.Refused r) = Refused r
+
+abbrev pub headerAt : Files → ℕ → HeaderAt
+headerAt f k = headerOf (f .slots) (f .payload) (objectOf (f .objects) k) (layoutOf (f .layout))
+
+abbrev pub objectSource : Files → ℕ → Source
+objectSource f k = sourceWith f (codeOf f (headerAt f k)) (poolOf f (objectOf (f .objects) k))
+
+-- the call: rows 1 to 9, then 11 to 16, 19 and 18
+unfoldable pub walkCall : Files → ℕ → List ℕ → Walked × List ℕ
+walkCall f k marks = unless (orElse (checkFiles f k) (headerCheck (headerAt f k))) marks (walkSource (objectSource f k) marks)
+
+-- ---- the walks of lent code
+-- with the pool of the object that is lent for it, if one is
+abbrev pub lentSource : Files → Owner → List ℕ → Source
+lentSource f o code = sourceWith f code (ownerPool f o)
+
+-- the call: rows 1 to 8 and 10, then 11 to 16, 19 and 18
+unfoldable pub walkLent : Files → Owner → List ℕ → List ℕ → Walked × List ℕ
+walkLent f o code marks = unless (checkLent f o code) marks (walkSource (lentSource f o code) marks)
