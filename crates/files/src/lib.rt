@@ -8,6 +8,7 @@ ghost use Rattle.io.specs.Counts.{Counts};
 // Which answer is printed.
 pub enum Program {
     List,
+    Walk,
 }
 
 // A program, and the number of the first of its eight arguments. Argument 0 is no file: first is 0 where the files have their usual names.
@@ -51,6 +52,7 @@ fn usage(what: Program) {
 fn put_name(what: Program) -> bool {
     match what {
         Program::List => io::write_all(STDERR_FILENO, b"jscd_list"),
+        Program::Walk => io::write_all(STDERR_FILENO, b"jscd_walk"),
     }
 }
 
@@ -225,6 +227,17 @@ fn answer(
 {
     match what {
         Program::List => program::list_text(
+            out,
+            opcodes,
+            types,
+            runtime,
+            intrinsic,
+            layout,
+            objects,
+            slots,
+            payload,
+        ),
+        Program::Walk => program::walk_text(
             out,
             opcodes,
             types,

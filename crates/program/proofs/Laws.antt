@@ -1,6 +1,6 @@
 -- The listing within the limit; what is shown, and that a buffer of 64 bytes has room for it. Assumes nothing.
 use Prim.Native.Nat.{ℕ, zero, suc, _/_, _<_, _≤_, _^_}
-use mathlib.Core.Path.{_≡_, refl, sym, _∙_}
+use mathlib.Core.Path.{_≡_, refl, sym, ap, subst, _∙_}
 use mathlib.Core.Bool.{Bool, true, false, cond}
 use mathlib.Core.List.{List, _++_}
 use native.Mathlib.Omega.{arith}
@@ -29,7 +29,11 @@ use Rattle.decoder.specs.Listed.{listed}
 use Rattle.disasm.specs.declared.Listed.{Listed}
 use Rattle.disasm.specs.Lines.{linesText, listingCheck}
 use Rattle.disasm.specs.Listing.{Files, headerText, unless, putText, viewBy, listView, listHeader, poolOf, listObject, checkFiles, listCall}
-use Rattle.program.specs.Printed.{refusalText, withinLimit, limited, told, shown, Printed}
+use Rattle.walk.specs.declared.Walked.{Walked}
+use Rattle.walk.specs.declared.Walked.the-variants as walked
+use Rattle.walk.specs.Walk as walk
+use Rattle.walk.specs.Walk.{walkCheck, walkFound, walkSource, headerCheck, headerAt, objectSource, walkCall}
+use Rattle.program.specs.Printed.{refusalText, withinLimit, limitCheck, limited, told, shown, Printed, walkText, walkLimited, walkAnswer, walkShown}
 use Rattle.header.specs.declared.HeaderAt.the-variants as header-at
 use Rattle.disasm.specs.declared.Listed.the-variants as listed-as
 
@@ -63,7 +67,7 @@ headed f (header-at.At h) p el =
     let v = viewBy f h p el in
     let l = listed (v .code) (f .opcodes) (f .types) (v .frame .«reg_file_start») in
     let t = headerText h ++ linesText v (l .instrs) in
-    checked (listingCheck v l) (putText t) (puts t (λ o. refl))
+    checked (listingCheck (v .opcodes) (v .pooled) l) (putText t) (puts t (λ o. refl))
 
 listed-call : (f : Files) → Call (listCall f 0)
 unfolding listCall
@@ -147,3 +151,69 @@ module _ (f : Files) (o : List ℕ) (small : length o < 2 ^ 63) {x : Listed} {o�
   printed-refusal r {o′} {n} h p =
       let a : Told o (listed-as.Refused r) o₁ (shown f (length o)) = rw (← e, ← e₁, h) at (limited-tells f o) in
       printed (shown f (length o)) o o′ n small (λ k. rw (a .1) (omega (arith, line r))) (rw (a .0, ← a .1) at p)
+
+-- ---- the walk program
+
+-- a check made twice says what it says once
+walk-once : (a b : Check) (M : List ℕ) (x : Walked × List ℕ) → walk.unless (orElse a Ok) M (walk.unless (orElse a b) M x) ≡ walk.unless (orElse a b) M x
+walk-once Ok b M x = refl
+walk-once (Refused r) b M x = refl
+
+pub walk-within : (f : Files) (M : List ℕ) → withinLimit (length (f .objects)) (length (f .slots)) (length (f .payload)) ≡ true → walkLimited f M ≡ walkCall f 0 M
+unfolding walkLimited walkCall
+walk-within f M h =
+    let t = checkTable (f .opcodes) (f .types) (f .runtime) (f .intrinsic) (f .layout) in
+    let b = orElse (checkStore (f .objects) (f .slots) (f .payload)) (checkCodeObject (f .objects) 0) in
+    let x = walkSource (objectSource f 0) M in
+    rw (h, or-of-or t b (headerCheck (headerAt f 0))) (walk-once t (orElse b (headerCheck (headerAt f 0))) M x)
+  where
+    or-of-or : (a b c : Check) → orElse (orElse a b) c ≡ orElse a (orElse b c)
+    or-of-or Ok b c = refl
+    or-of-or (Refused r) b c = refl
+
+-- the answer depends on how many marks there are, not on what they are
+unless-blind : (c c′ : Check) (M M′ : List ℕ) (x x′ : Walked × List ℕ) → c ≡ c′ → x .0 ≡ x′ .0 → walk.unless c M x .0 ≡ walk.unless c′ M′ x′ .0
+unless-blind c c′ M M′ x x′ e h = rw e (go c′)
+  where
+    go : (c : Check) → walk.unless c M x .0 ≡ walk.unless c M′ x′ .0
+    go Ok = h
+    go (Refused r) = refl
+
+pub walk-blind : (f : Files) (M : List ℕ) (n : ℕ) → length M ≡ n → walkLimited f M .0 ≡ walkAnswer f n
+unfolding walkAnswer walkLimited walkCall walkSource
+walk-blind f M n e =
+    let M′ : List ℕ = replicate n 0 in
+    let s = objectSource f 0 in
+    let same : length M ≡ length M′ = e ∙ sym (length-replicate {A = ℕ} n 0) in
+    let c = orElse (checkFiles f 0) (headerCheck (headerAt f 0)) in
+    unless-blind (limitCheck f) (limitCheck f) M M′ (walkCall f 0 M) (walkCall f 0 M′) refl
+    (unless-blind c c M M′ (walkSource s M) (walkSource s M′) refl
+    (unless-blind (walkCheck s (length M)) (walkCheck s (length M′)) M M′ (walkFound s M) (walkFound s M′) (ap (walkCheck s) same) refl))
+
+-- files beyond the limit, and a table that is refused before
+module _ (f : Files) (n : ℕ) (beyond : withinLimit (length (f .objects)) (length (f .slots)) (length (f .payload)) ≡ false) where
+  pub walk-beyond : checkTable (f .opcodes) (f .types) (f .runtime) (f .intrinsic) (f .layout) ≡ Ok → walked.Refused (refusalAt 6 0) ≡ walkAnswer f n
+  unfolding walkAnswer walkLimited
+  walk-beyond e =
+      let M : List ℕ = replicate n 0 in
+      let b = withinLimit (length (f .objects)) (length (f .slots)) (length (f .payload)) in
+      sym
+      (ap (λ (c : Check). walk.unless (orElse c (unlessGood b 6)) M (walkCall f 0 M) .0) e
+      ∙ ap (λ (x : Bool). walk.unless (unlessGood x 6) M (walkCall f 0 M) .0) beyond)
+
+  pub walk-refused : (r : Refusal) → checkTable (f .opcodes) (f .types) (f .runtime) (f .intrinsic) (f .layout) ≡ Refused r → walked.Refused r ≡ walkAnswer f n
+  unfolding walkAnswer walkLimited
+  walk-refused r e =
+      let M : List ℕ = replicate n 0 in
+      let b = withinLimit (length (f .objects)) (length (f .slots)) (length (f .payload)) in
+      sym (ap (λ (c : Check). walk.unless (orElse c (unlessGood b 6)) M (walkCall f 0 M) .0) e)
+
+walk-line : (w : Walked) → length (walkText w) ≤ 64
+unfolding walkText decimal
+walk-line walked.Closed = omega arith
+walk-line (walked.Leaves n o) = rw (length-append, length-append, length-append, length-append) (omega (arith, digits 20 n, digits 20 o))
+walk-line (walked.Refused r) = line r
+
+pub walk-printed : (f : Files) (o : List ℕ) → length o < 2 ^ 63 → (w : Walked) → w ≡ walkAnswer f 65536 → {o′ : List ℕ} {n : ℕ} → Put o 0 (walkText w) o′ n → Printed (walkShown f) o o′ n
+walk-printed f o small w e {o′} {n} p =
+    subst (λ (x : Walked). Printed (walkText x) o o′ n) e (printed (walkText w) o o′ n small (λ k. omega (arith, walk-line w)) p)

@@ -7,6 +7,7 @@ use lib.Dec.{leb}
 use lib.ListN.{length, take, drop, replicate}
 use Rattle.laws.specs.Ascii.{ascii}
 use Rattle.refusal.specs.declared.Refusal.{Refusal}
+use Rattle.refusal.specs.declared.Check.{Check}
 use Rattle.refusal.specs.Check.{orElse, unlessGood}
 use Rattle.text.specs.Put.{Put}
 use Rattle.text.specs.Texts.{decimal}
@@ -14,6 +15,10 @@ use Rattle.tables.specs.Check.{checkTable}
 use Rattle.disasm.specs.declared.Listed.{Listed}
 use Rattle.disasm.specs.declared.Listed.the-variants as listed-as
 use Rattle.disasm.specs.Listing.{Files, unless, listCall}
+use Rattle.walk.specs.declared.Walked.{Walked}
+use Rattle.walk.specs.declared.Walked.the-variants as walked
+use Rattle.walk.specs.Walk as walk
+use Rattle.walk.specs.Walk.{walkCall}
 
 -- "Either prints a refusal as `refused 14 at 1`"
 unfoldable pub refusalText : Refusal → List ℕ
@@ -24,13 +29,15 @@ refusalText r = ascii "refused " ++ decimal (r .number) ++ ascii " at " ++ decim
 unfoldable pub withinLimit : ℕ → ℕ → ℕ → Bool
 withinLimit objects slots payload = leb objects 65536 && leb slots 65536 && leb payload 65536
 
--- The listing of object 0 into the buffer o. A store file beyond the limit is number 6, which comes after 1 to 5.
+-- A store file beyond the limit is number 6, which comes after 1 to 5.
+abbrev pub limitCheck : Files → Check
+limitCheck f =
+    orElse (checkTable (f .opcodes) (f .types) (f .runtime) (f .intrinsic) (f .layout))
+    (unlessGood (withinLimit (length (f .objects)) (length (f .slots)) (length (f .payload))) 6)
+
+-- The listing of object 0 into the buffer o.
 unfoldable pub limited : Files → List ℕ → Listed × List ℕ
-limited f o =
-    unless
-    (orElse (checkTable (f .opcodes) (f .types) (f .runtime) (f .intrinsic) (f .layout))
-    (unlessGood (withinLimit (length (f .objects)) (length (f .slots)) (length (f .payload))) 6))
-    o (listCall f 0 o)
+limited f o = unless (limitCheck f) o (listCall f 0 o)
 
 -- The text of an answer and of the buffer that it left: the listing, or the refusal's line.
 abbrev pub told : Listed → List ℕ → List ℕ
@@ -41,6 +48,24 @@ told (listed-as.Refused r) o = refusalText r
 -- n zeros here; that what they held before makes no difference is the contract of `list_text`.
 abbrev pub shown : Files → ℕ → List ℕ
 shown f n = told (limited f (replicate n 0) .0) (limited f (replicate n 0) .1)
+
+-- "The walk program prints `closed` or `leaves steps 2 from 4`."
+unfoldable pub walkText : Walked → List ℕ
+walkText walked.Closed = ascii "closed\n"
+walkText (walked.Leaves n o) = ascii "leaves steps " ++ decimal n ++ ascii " from " ++ decimal o ++ ascii "\n"
+walkText (walked.Refused r) = refusalText r
+
+-- The walks of object 0 with the marks M.
+unfoldable pub walkLimited : Files → List ℕ → Walked × List ℕ
+walkLimited f M = walk.unless (limitCheck f) M (walkCall f 0 M)
+
+-- The answer with n marks, which are zeros here; that what they were before makes no difference is the contract of `walk_text`.
+unfoldable pub walkAnswer : Files → ℕ → Walked
+walkAnswer f n = walkLimited f (replicate n 0) .0
+
+-- what the walk program prints: it lends 65,536 marks, as many as a code has bytes at most
+abbrev pub walkShown : Files → List ℕ
+walkShown f = walkText (walkAnswer f 65536)
 
 -- The text t was put at the start of the buffer o, as far as o reaches, which left o′; r is the text's length. A buffer of 64 bytes or more
 -- reaches: its first r bytes are the text, and the others are as they were.

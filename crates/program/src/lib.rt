@@ -1,13 +1,15 @@
-// What the programs print: a refusal's line, and the listing of object 0.
+// What the programs print: a refusal's line, the listing of object 0, and the answer of the walk check on it.
 
 use disasm::Listed;
 use refusal::Check;
 use refusal::Refusal;
+use walk::Walked;
 ghost use mathlib.Core.Path.{_≡_};
 ghost use lib.ListN.{length};
 ghost use Rattle.text.specs.Put.{Put};
 ghost use Rattle.disasm.specs.Listing.{ListedAs};
-ghost use Rattle.program.specs.Printed.{refusalText, withinLimit, limited, shown, Printed};
+ghost use Rattle.walk.specs.declared.Walked.the-variants as walked;
+ghost use Rattle.program.specs.Printed.{refusalText, withinLimit, limited, shown, Printed, walkText, walkAnswer, walkShown};
 
 // The line `refused 14 at 1`.
 pub fn put_refusal(out: &mut [u8], at: usize, r: Refusal) -> usize
@@ -86,6 +88,119 @@ fn list_limited(
             place: 0,
         }),
         Check::Refused(r) => Listed::Refused(r),
+    }
+}
+
+// What `jscd_walk` prints, from the start of the buffer on: the answer of the walk check on object 0, or the line of its refusal.
+pub fn walk_text(
+    out: &mut [u8],
+    opcodes: &[u8],
+    types: &[u8],
+    runtime: &[u8],
+    intrinsic: &[u8],
+    layout: &[u8],
+    objects: &[u8],
+    slots: &[u8],
+    payload: &[u8],
+) -> usize
+    ensures { λ r. ⌜ Printed (walkShown (record { opcodes = now (opcodes .entry); types = now (types .entry); runtime = now (runtime .entry); intrinsic = now (intrinsic .entry); layout = now (layout .entry); objects = now (objects .entry); slots = now (slots .entry); payload = now (payload .entry) })) (now (out .entry)) (now (out .exit)) r ⌝ }
+{
+    let walked = walk_marked(
+        opcodes,
+        types,
+        runtime,
+        intrinsic,
+        layout,
+        objects,
+        slots,
+        payload,
+    );
+    put_walked(out, 0, walked)
+}
+
+// A line for the answer of a walk check.
+pub fn put_walked(out: &mut [u8], at: usize, walked: Walked) -> usize
+    ensures { λ e. ⌜ Put (now (out .entry)) at (walkText walked) (now (out .exit)) e ⌝ }
+{
+    match walked {
+        Walked::Closed => text::put_bytes(out, at, b"closed\n"),
+        Walked::Leaves(steps, offset) => put_leaves(out, at, steps, offset),
+        Walked::Refused(r) => put_refusal(out, at, r),
+    }
+}
+
+// The line `leaves steps 2 from 4`.
+fn put_leaves(out: &mut [u8], at: usize, steps: usize, offset: usize) -> usize
+    ensures { λ e. ⌜ Put (now (out .entry)) at (walkText (walked.Leaves steps offset)) (now (out .exit)) e ⌝ }
+{
+    let p = text::put_bytes(out, at, b"leaves steps ");
+    let p = text::put_decimal(out, p, steps as u64);
+    let p = text::put_bytes(out, p, b" from ");
+    let p = text::put_decimal(out, p, offset as u64);
+    text::put_byte(out, p, b'\n')
+}
+
+// The walks of object 0, with marks for the longest code.
+fn walk_marked(
+    opcodes: &[u8],
+    types: &[u8],
+    runtime: &[u8],
+    intrinsic: &[u8],
+    layout: &[u8],
+    objects: &[u8],
+    slots: &[u8],
+    payload: &[u8],
+) -> Walked
+    ensures { λ r. ⌜ r ≡ walkAnswer (record { opcodes = now (opcodes .entry); types = now (types .entry); runtime = now (runtime .entry); intrinsic = now (intrinsic .entry); layout = now (layout .entry); objects = now (objects .entry); slots = now (slots .entry); payload = now (payload .entry) }) 65536 ⌝ }
+{
+    let mut marks = [0u8; 65536];
+    walk_limited(
+        &mut marks,
+        opcodes,
+        types,
+        runtime,
+        intrinsic,
+        layout,
+        objects,
+        slots,
+        payload,
+    )
+}
+
+// The walks of object 0, of store files that are within the program's limit.
+fn walk_limited(
+    marks: &mut [u8],
+    opcodes: &[u8],
+    types: &[u8],
+    runtime: &[u8],
+    intrinsic: &[u8],
+    layout: &[u8],
+    objects: &[u8],
+    slots: &[u8],
+    payload: &[u8],
+) -> Walked
+    ensures { λ r. ⌜ r ≡ walkAnswer (record { opcodes = now (opcodes .entry); types = now (types .entry); runtime = now (runtime .entry); intrinsic = now (intrinsic .entry); layout = now (layout .entry); objects = now (objects .entry); slots = now (slots .entry); payload = now (payload .entry) }) (length (now (marks .entry))) ⌝ }
+{
+    if within_limit(objects.len(), slots.len(), payload.len()) {
+        return walk::walk(
+            marks,
+            opcodes,
+            types,
+            runtime,
+            intrinsic,
+            layout,
+            objects,
+            slots,
+            payload,
+            0,
+        );
+    }
+    match tables::check_table(opcodes, types, runtime, intrinsic, layout) {
+        Check::Ok => Walked::Refused(Refusal {
+            number: 6,
+            place: 0,
+        }),
+        Check::Refused(r) => Walked::Refused(r),
     }
 }
 
