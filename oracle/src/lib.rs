@@ -5,7 +5,7 @@
 //! function. vectors: answers as a file. sample, cases: document 01's sample and rows. recording:
 //! vectors from a seed, out of stores (random ones and their boundaries) and faults, by classes.
 //! code_recording: the same for instructions, out of codes, by the classes in instructions. v8: what
-//! V8 printed, as vectors.
+//! V8 printed, as vectors. real: what V8 printed, as record files.
 
 pub mod ask;
 pub mod cases;
@@ -18,6 +18,7 @@ pub mod faults;
 pub mod instructions;
 pub mod port;
 pub mod random;
+pub mod real;
 pub mod recording;
 pub mod records;
 pub mod sample;
