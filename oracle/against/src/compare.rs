@@ -305,7 +305,7 @@ mod tests {
         let items: Vec<u8> = (0..100).collect();
         let differs = |kept: &[u8]| kept.contains(&7) && kept.contains(&93);
         assert_eq!(shrunk(&items, differs), [7, 93]);
-        assert_eq!(shrunk(&items, |_| true), []);
+        assert_eq!(shrunk(&items, |_| true), Vec::<u8>::new());
         assert_eq!(shrunk(&[1, 2], |_| false), [1, 2]);
     }
 
