@@ -38,7 +38,10 @@ pub struct Files<'a> {
 #[derive(Debug, Clone, Copy, PartialEq, Eq)]
 pub enum Operand {
     Reg(i32),
-    RegList { first: i32, count: u32 },
+    RegList {
+        first: i32,
+        count: u32,
+    },
     Imm(i64),
     Idx(u32),
     Flag8(u8),
@@ -46,7 +49,10 @@ pub enum Operand {
     RuntimeId(u32),
     IntrinsicId(u32),
     /// Of type code `ty`, which is 17 or above.
-    Raw { ty: u8, value: u64 },
+    Raw {
+        ty: u8,
+        value: u64,
+    },
 }
 
 #[derive(Debug, Clone, PartialEq, Eq)]
