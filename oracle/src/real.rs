@@ -146,7 +146,7 @@ mod tests {
     use crate::ask::{ask, Call, LISTING};
 
     /// The Rust lists each function as V8 printed it, where the listings are beside the repository. A switch behind a prefix has no
-    /// entries in the Rust.
+    /// entries in the Rust. A listing that is too long for the program is number 17.
     #[test]
     fn as_v8_printed() {
         let folder = Path::new(env!("CARGO_MANIFEST_DIR")).join("../../shared/v8-listings");
@@ -155,6 +155,10 @@ mod tests {
         }
         for function in functions(&folder).unwrap() {
             let said = ask(&function.files, &[], &Call::new(LISTING, &[])).unwrap().to_string();
+            if function.listing.len() > crate::checks::PROGRAM_OUTPUT {
+                assert_eq!(said, "refused 17 at 0");
+                continue;
+            }
             for (rust, v8) in said.lines().zip(function.listing.lines()) {
                 let v8 = match rust.contains(" Switch") && rust.contains("Wide ") {
                     true => v8.split(" { ").next().unwrap(),
