@@ -61,6 +61,8 @@ fn once(which: &str, folder: &Path) -> Result<(), String> {
 
 // ---- what is measured ----
 
+// A further call (the walk check) is one more function of `Room`, measured in `measure` and shown in `report` and `growth`.
+
 /// The buffers of both, made once: neither grows while it is measured.
 struct Room {
     bytes: Vec<u8>,

@@ -95,24 +95,31 @@ fn run(options: &Options, job: u64) -> Result<Report, String> {
     let mut r = Random::new(r.next() ^ job);
     let mut compare = Compare::new();
     let part = |all: u64| all / options.jobs + (job < all % options.jobs) as u64;
+    let start = Instant::now();
+    let done =
+        |what: &str| eprintln!("job {job}: {what} done, {:.0} s", start.elapsed().as_secs_f64());
     let first = r.next();
     let turn = |case: u64| first.wrapping_add(case / TURN);
     for case in 0..part(options.codes) {
         let function = stock.function(&mut r, turn(case));
         compare.function(&mut r, &function);
     }
+    done("codes");
     for case in 0..part(options.stores) {
         let files = stock.store(&mut r, turn(case));
         compare.files(&mut r, "stores", &files);
     }
+    done("stores");
     for case in 0..part(options.tables) {
         let files = stock.table(&mut r, turn(case));
         compare.files(&mut r, "tables", &files);
         compare.decode(&files, &[0x02, 0x00], r.below(4) as usize);
     }
+    done("tables");
     if job == 0 {
         compare.limits();
     }
     exhaustive::run(&mut compare, if options.short { 2 } else { 3 }, job, options.jobs);
+    done("short codes");
     Ok(compare.report)
 }
