@@ -3,7 +3,7 @@
 
    Bytes are lent as a pointer and a length; the pointer is not NULL, also for no bytes. What is lent as const is only read; `out`,
    `place` and `numbers` overlap nothing else that is lent. No function keeps a pointer, allocates, prints or fails otherwise than
-   by its answer. */
+   by its answer. A length is below 2^63. */
 #ifndef JSCD_H
 #define JSCD_H
 

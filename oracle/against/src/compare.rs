@@ -277,23 +277,43 @@ fn hex(bytes: &[u8]) -> String {
     bytes.iter().map(|b| format!("{b:02x}")).collect()
 }
 
-/// A part of a list that still differs, from which nothing can be taken away: halves first, then single items.
+/// A part of a list that still differs: halves taken away first, then shorter parts, then, of a short list, a part of any length at any
+/// place, until nothing more can go.
 pub fn shrunk<T: Clone>(items: &[T], mut differs: impl FnMut(&[T]) -> bool) -> Vec<T> {
+    const SHORT: usize = 200;
+    const PART: usize = 24;
     let mut kept = items.to_vec();
     let mut size = kept.len();
     while size > 0 {
-        let mut at = 0;
-        while at + size <= kept.len() {
-            let mut less = kept.clone();
-            less.drain(at..at + size);
-            match differs(&less) {
-                true => kept = less,
-                false => at += size,
-            }
-        }
+        without(&mut kept, size, size, &mut differs);
         size /= 2;
     }
+    let mut before = usize::MAX;
+    while kept.len() < before && kept.len() <= SHORT {
+        before = kept.len();
+        for size in (1..=PART.min(before)).rev() {
+            without(&mut kept, size, 1, &mut differs);
+        }
+    }
     kept
+}
+
+/// Takes parts of a size away, one after the other, where what is left differs still.
+fn without<T: Clone>(
+    kept: &mut Vec<T>,
+    size: usize,
+    step: usize,
+    differs: &mut impl FnMut(&[T]) -> bool,
+) {
+    let mut at = 0;
+    while at + size <= kept.len() {
+        let mut less = kept.clone();
+        less.drain(at..at + size);
+        match differs(&less) {
+            true => *kept = less,
+            false => at += step,
+        }
+    }
 }
 
 #[cfg(test)]
@@ -307,6 +327,8 @@ mod tests {
         assert_eq!(shrunk(&items, differs), [7, 93]);
         assert_eq!(shrunk(&items, |_| true), Vec::<u8>::new());
         assert_eq!(shrunk(&[1, 2], |_| false), [1, 2]);
+        // Only whole parts of 5 can go.
+        assert_eq!(shrunk(&items, |kept| kept.len() % 5 == 0 && kept.contains(&7)).len(), 5);
     }
 
     /// The sides are told apart: with one byte of what the Rust is given changed, there is a difference, and it is small.
