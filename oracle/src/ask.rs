@@ -414,15 +414,20 @@ fn decoded(lent: &Lent, code: &[u8]) -> Result<Answer, Refusal> {
     let Some(ins) = decode::checked(&lent.port, code, lent.call.args[0])? else {
         return Ok(Answer::End);
     };
+    Ok(instruction(lent.files, &ins))
+}
+
+/// An instruction as its numbers.
+pub fn instruction(files: &Files, ins: &Instr) -> Answer {
     let end = ins.offset + ins.bytes.len();
     let mut out: Vec<Word> = [ins.opcode as usize, ins.scale as usize, end, ins.operands.len()]
         .map(|n| Word::U(n as u64))
         .to_vec();
-    let codes = operand_codes(Opcode(lent.files.record(OPCODES, ins.opcode as usize)));
+    let codes = operand_codes(Opcode(files.record(OPCODES, ins.opcode as usize)));
     for (operand, code) in ins.operands.iter().zip(codes) {
         out.extend(operand_words(operand, code));
     }
-    Ok(words(out))
+    words(out)
 }
 
 /// The walk over the code of object 0.

@@ -7,7 +7,8 @@
 //! code_recording: the same for instructions, out of codes, by the classes in instructions.
 //! list_recording, jump_recording: the same for whole listings, and for targets and numbers in slots,
 //! out of lists. named: listings with a name. v8, v8_lists: what V8 printed, as vectors.
-//! walks: the walk check from document 01, with vectors in walk_*.
+//! real: the same functions as record files. walks: the walk check from document 01, with vectors
+//! in walk_*.
 
 pub mod ask;
 pub mod cases;
@@ -24,6 +25,7 @@ pub mod lists;
 pub mod named;
 pub mod port;
 pub mod random;
+pub mod real;
 pub mod recording;
 pub mod records;
 pub mod sample;

@@ -54,6 +54,17 @@ impl<'a> Port<'a> {
         Ok(Port { table, cache, objects: count })
     }
 
+    /// The same table with the store of other files, which have passed the checks.
+    pub fn with_store<'b>(self, files: &'b Files) -> Port<'b> {
+        let mut objects: Vec<_> =
+            files.all(OBJECTS).map(|r| object(files, Object::read(r))).collect();
+        let count = objects.len();
+        objects.extend(added());
+        let ts = self.table.tagged_size as usize;
+        let cache = ser::CodeCache::open_new(&files.body[PAYLOAD], ts, objects);
+        Port { table: self.table, cache, objects: count }
+    }
+
     pub fn layout(&self) -> FamilyLayout {
         FamilyLayout::from_table(&self.table)
     }

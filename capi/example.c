@@ -1,0 +1,58 @@
+/* Lists the function whose eight record files are in a folder, and decodes the first instruction of a small code by their tables.
+     cc -Icapi/include capi/example.c target/staticlib/libcapi.a -o target/example && target/example crates/jscd_list/data */
+#include "jscd.h"
+#include <stdio.h>
+#include <stdlib.h>
+
+#define MOST 65536
+
+struct file {
+    uint8_t *bytes;
+    size_t length;
+};
+
+static struct file read_file(const char *folder, const char *name) {
+    char path[4096];
+    struct file file = {malloc(MOST), 0};
+    snprintf(path, sizeof path, "%s/%s", folder, name);
+    FILE *from = fopen(path, "rb");
+    if (!from || !file.bytes) {
+        perror(path);
+        exit(2);
+    }
+    file.length = fread(file.bytes, 1, MOST, from);
+    fclose(from);
+    return file;
+}
+
+int main(int argc, char **argv) {
+    static const char *names[8] = {"opcodes.bin", "types.bin",   "runtime.bin", "intrinsic.bin",
+                                   "layout.bin",  "objects.bin", "slots.bin",   "payload.bin"};
+    static uint8_t out[MOST];
+    struct file f[8];
+    size_t place;
+    if (argc != 2) {
+        fprintf(stderr, "usage: example FOLDER\n");
+        return 2;
+    }
+    for (int k = 0; k < 8; k++)
+        f[k] = read_file(argv[1], names[k]);
+
+    uint8_t answer = jscd_list(out, sizeof out, f[0].bytes, f[0].length, f[1].bytes, f[1].length, f[2].bytes, f[2].length,
+                               f[3].bytes, f[3].length, f[4].bytes, f[4].length, f[5].bytes, f[5].length, f[6].bytes,
+                               f[6].length, f[7].bytes, f[7].length, 0, &place);
+    if (answer != JSCD_DONE) {
+        printf("refused %d at %zu\n", answer, place);
+        return 1;
+    }
+    fwrite(out, 1, place, stdout);
+
+    static const uint8_t code[] = {0x03, 0xff};
+    uint64_t numbers[JSCD_NUMBERS];
+    answer = jscd_decode(f[0].bytes, f[0].length, f[1].bytes, f[1].length, f[4].bytes, f[4].length, code, sizeof code, 0, &place,
+                         numbers);
+    if (answer == JSCD_DONE && numbers[JSCD_OPERANDS] > 0)
+        printf("opcode %llu, first operand of kind %llu: %lld\n", (unsigned long long)numbers[JSCD_OPCODE],
+               (unsigned long long)numbers[JSCD_OPERAND(0)], (long long)numbers[JSCD_OPERAND(0) + 1]);
+    return 0;
+}

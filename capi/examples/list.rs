@@ -1,0 +1,22 @@
+//! Lists the function whose eight record files are in a folder.
+//!   cargo run --example list ../crates/jscd_list/data
+
+use jscd_capi::{list, Files};
+use std::path::Path;
+
+const NAMES: [&str; 8] =
+    ["opcodes", "types", "runtime", "intrinsic", "layout", "objects", "slots", "payload"];
+
+fn main() -> Result<(), Box<dyn std::error::Error>> {
+    let folder = std::env::args().nth(1).ok_or("usage: list FOLDER")?;
+    let read = |name| std::fs::read(Path::new(&folder).join(format!("{name}.bin")));
+    let files = NAMES.into_iter().map(read).collect::<Result<Vec<_>, _>>()?;
+    let [opcodes, types, runtime, intrinsic, layout, objects, slots, payload] = &files[..] else {
+        unreachable!("there are eight names")
+    };
+    let files = Files { opcodes, types, runtime, intrinsic, layout, objects, slots, payload };
+    let mut out = vec![0; 65_536];
+    let length = list(&files, 0, &mut out)?;
+    print!("{}", std::str::from_utf8(&out[..length])?);
+    Ok(())
+}

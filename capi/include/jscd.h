@@ -1,0 +1,67 @@
+/* Dojisun for C: the functions of target/staticlib/libcapi.a (rt staticlib capi), each proved to meet the contract in
+   crates/capi/src/lib.rt. x86-64 Linux.
+
+   Bytes are lent as a pointer and a length; the pointer is not NULL, also for no bytes. What is lent as const is only read; `out`,
+   `place` and `numbers` overlap nothing else that is lent. No function keeps a pointer, allocates, prints or fails otherwise than
+   by its answer. A length is below 2^63. */
+#ifndef JSCD_H
+#define JSCD_H
+
+#include <stddef.h>
+#include <stdint.h>
+
+#ifdef __cplusplus
+extern "C" {
+#endif
+
+/* Answers: JSCD_DONE, JSCD_END, or the number of a refusal, 1 to 20 (README.md, "Refusals"). */
+#define JSCD_DONE 0
+#define JSCD_END 255
+
+/* The listing of a BytecodeArray from the start of `out` on. The eight record files are those of document 01, in its order.
+   JSCD_DONE: *place is the listing's length. A refusal: *place is its place, and `out` is as it was. */
+uint8_t jscd_list(uint8_t *out, size_t out_len,
+                  const uint8_t *opcodes, size_t opcodes_len,
+                  const uint8_t *types, size_t types_len,
+                  const uint8_t *runtime, size_t runtime_len,
+                  const uint8_t *intrinsic, size_t intrinsic_len,
+                  const uint8_t *layout, size_t layout_len,
+                  const uint8_t *objects, size_t objects_len,
+                  const uint8_t *slots, size_t slots_len,
+                  const uint8_t *payload, size_t payload_len,
+                  size_t object, size_t *place);
+
+/* Kinds of an operand, with its first and second number; signed ones are in two's complement. */
+#define JSCD_NONE 0        /* an unused place */
+#define JSCD_REG 1         /* index, signed */
+#define JSCD_REG_LIST 2    /* first index, signed; count */
+#define JSCD_IMM 3         /* value, signed */
+#define JSCD_IDX 4         /* value */
+#define JSCD_FLAG8 5       /* value */
+#define JSCD_FLAG16 6      /* value */
+#define JSCD_RUNTIME_ID 7  /* value */
+#define JSCD_INTRINSIC_ID 8 /* value */
+#define JSCD_RAW 9         /* type code; value */
+
+/* Places of an instruction's 28 numbers: four, then kind, first and second number of each of eight operands. */
+#define JSCD_OPCODE 0
+#define JSCD_SCALE 1    /* 1, 2 or 4 */
+#define JSCD_ENDS 2     /* the place behind it */
+#define JSCD_OPERANDS 3 /* how many of the eight are used */
+#define JSCD_OPERAND(k) (4 + 3 * (k))
+#define JSCD_NUMBERS 28
+
+/* The instruction at a place of lent code.
+   JSCD_DONE: `numbers` has it, and *place is the place behind it. JSCD_END: `start` is the code's length, and so is *place.
+   A refusal: *place is its place. Unless done, `numbers` is as it was. */
+uint8_t jscd_decode(const uint8_t *opcodes, size_t opcodes_len,
+                    const uint8_t *types, size_t types_len,
+                    const uint8_t *layout, size_t layout_len,
+                    const uint8_t *code, size_t code_len,
+                    size_t start, size_t *place, uint64_t numbers[JSCD_NUMBERS]);
+
+#ifdef __cplusplus
+}
+#endif
+
+#endif

@@ -1,0 +1,204 @@
+//! Dojisun's proved functions for Rust, safe to call: the archive of crate `capi` behind slices and enums.
+//!
+//! Every function of the archive is defined for every input, so nothing is tested here. Rust's own rule that a `&mut` overlaps nothing
+//! is all that the archive asks for.
+
+#![forbid(improper_ctypes)]
+
+use std::fmt;
+
+/// Document 01's refusal: its number and its place.
+#[derive(Debug, Clone, Copy, PartialEq, Eq, PartialOrd, Ord)]
+pub struct Refusal {
+    pub number: u8,
+    pub place: usize,
+}
+
+impl fmt::Display for Refusal {
+    fn fmt(&self, f: &mut fmt::Formatter) -> fmt::Result {
+        write!(f, "refused {} at {}", self.number, self.place)
+    }
+}
+
+impl std::error::Error for Refusal {}
+
+/// The eight record files, in document 01's order.
+#[derive(Debug, Clone, Copy)]
+pub struct Files<'a> {
+    pub opcodes: &'a [u8],
+    pub types: &'a [u8],
+    pub runtime: &'a [u8],
+    pub intrinsic: &'a [u8],
+    pub layout: &'a [u8],
+    pub objects: &'a [u8],
+    pub slots: &'a [u8],
+    pub payload: &'a [u8],
+}
+
+#[derive(Debug, Clone, Copy, PartialEq, Eq)]
+pub enum Operand {
+    Reg(i32),
+    RegList {
+        first: i32,
+        count: u32,
+    },
+    Imm(i64),
+    Idx(u32),
+    Flag8(u8),
+    Flag16(u16),
+    RuntimeId(u32),
+    IntrinsicId(u32),
+    /// Of type code `ty`, which is 17 or above.
+    Raw {
+        ty: u8,
+        value: u64,
+    },
+}
+
+#[derive(Debug, Clone, PartialEq, Eq)]
+pub struct Instr {
+    pub offset: usize,
+    pub opcode: u8,
+    /// 1, 2 (Wide) or 4 (ExtraWide).
+    pub scale: u8,
+    /// The place behind it.
+    pub end: usize,
+    pub operands: Vec<Operand>,
+}
+
+/// The listing of a BytecodeArray into `out`: its length. After a refusal `out` is as it was.
+pub fn list(files: &Files, object: usize, out: &mut [u8]) -> Result<usize, Refusal> {
+    let mut place = 0;
+    let f = files;
+    // Safety: each pointer and length is that of a live slice, `out` and `place` are borrowed as `&mut`.
+    let number = unsafe {
+        jscd_list(
+            out.as_mut_ptr(),
+            out.len(),
+            f.opcodes.as_ptr(),
+            f.opcodes.len(),
+            f.types.as_ptr(),
+            f.types.len(),
+            f.runtime.as_ptr(),
+            f.runtime.len(),
+            f.intrinsic.as_ptr(),
+            f.intrinsic.len(),
+            f.layout.as_ptr(),
+            f.layout.len(),
+            f.objects.as_ptr(),
+            f.objects.len(),
+            f.slots.as_ptr(),
+            f.slots.len(),
+            f.payload.as_ptr(),
+            f.payload.len(),
+            object,
+            &mut place,
+        )
+    };
+    match number {
+        DONE => Ok(place),
+        _ => Err(Refusal { number, place }),
+    }
+}
+
+/// The instruction at a place of lent code; None at the code's end.
+pub fn decode(
+    opcodes: &[u8],
+    types: &[u8],
+    layout: &[u8],
+    code: &[u8],
+    start: usize,
+) -> Result<Option<Instr>, Refusal> {
+    let mut place = 0;
+    let mut numbers = [0u64; NUMBERS];
+    // Safety: as in `list`; `numbers` has the length that the function writes.
+    let number = unsafe {
+        jscd_decode(
+            opcodes.as_ptr(),
+            opcodes.len(),
+            types.as_ptr(),
+            types.len(),
+            layout.as_ptr(),
+            layout.len(),
+            code.as_ptr(),
+            code.len(),
+            start,
+            &mut place,
+            &mut numbers,
+        )
+    };
+    match number {
+        DONE => Ok(Some(instr(start, &numbers))),
+        END => Ok(None),
+        _ => Err(Refusal { number, place }),
+    }
+}
+
+const DONE: u8 = 0;
+const END: u8 = 255;
+const NUMBERS: usize = 28;
+
+extern "C" {
+    fn jscd_list(
+        out: *mut u8,
+        out_len: usize,
+        opcodes: *const u8,
+        opcodes_len: usize,
+        types: *const u8,
+        types_len: usize,
+        runtime: *const u8,
+        runtime_len: usize,
+        intrinsic: *const u8,
+        intrinsic_len: usize,
+        layout: *const u8,
+        layout_len: usize,
+        objects: *const u8,
+        objects_len: usize,
+        slots: *const u8,
+        slots_len: usize,
+        payload: *const u8,
+        payload_len: usize,
+        object: usize,
+        place: *mut usize,
+    ) -> u8;
+
+    fn jscd_decode(
+        opcodes: *const u8,
+        opcodes_len: usize,
+        types: *const u8,
+        types_len: usize,
+        layout: *const u8,
+        layout_len: usize,
+        code: *const u8,
+        code_len: usize,
+        start: usize,
+        place: *mut usize,
+        numbers: *mut [u64; NUMBERS],
+    ) -> u8;
+}
+
+fn instr(offset: usize, numbers: &[u64; NUMBERS]) -> Instr {
+    let used = numbers[3] as usize;
+    Instr {
+        offset,
+        opcode: numbers[0] as u8,
+        scale: numbers[1] as u8,
+        end: numbers[2] as usize,
+        operands: numbers[4..].chunks_exact(3).take(used).map(operand).collect(),
+    }
+}
+
+fn operand(numbers: &[u64]) -> Operand {
+    let (first, second) = (numbers[1], numbers[2]);
+    match numbers[0] {
+        1 => Operand::Reg(first as i32),
+        2 => Operand::RegList { first: first as i32, count: second as u32 },
+        3 => Operand::Imm(first as i64),
+        4 => Operand::Idx(first as u32),
+        5 => Operand::Flag8(first as u8),
+        6 => Operand::Flag16(first as u16),
+        7 => Operand::RuntimeId(first as u32),
+        8 => Operand::IntrinsicId(first as u32),
+        _ => Operand::Raw { ty: first as u8, value: second },
+    }
+}

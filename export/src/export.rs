@@ -1,0 +1,445 @@
+//! Document 01's record files of a function, from a `VersionTable` and a `CodeCache`.
+//!
+//! This file goes into jscd's `src/` as it is (README.md says how): it needs `tables`, `serializer` and `disasm` and uses what they make
+//! public. `table` makes the five table files, `function` the three store files of one function, `write_all` a folder of both.
+//!
+//! What the records cannot hold is an error that names it; nothing is written then.
+
+use crate::disasm::Disassembler;
+use crate::serializer::{CodeCache, ObjId, Raw, Ref, SlotValue};
+use crate::tables::{BytecodeArrayLayout, OperandTypeInfo, VersionTable};
+use std::collections::{BTreeMap, BTreeSet};
+use std::path::Path;
+
+pub const TABLE_FILES: [&str; 5] =
+    ["opcodes.bin", "types.bin", "runtime.bin", "intrinsic.bin", "layout.bin"];
+pub const STORE_FILES: [&str; 3] = ["objects.bin", "slots.bin", "payload.bin"];
+
+/// The programs read files of up to so many bytes.
+pub const MOST_FILE: usize = 65_536;
+const MOST_INDEX: usize = 1_048_576;
+const MOST_OPERANDS: usize = 8;
+const ABSENT: u32 = u32::MAX;
+
+/// The names of type records 0 to 16.
+const TYPE_NAMES: [&str; 17] = [
+    "Reg",
+    "RegOut",
+    "RegInOut",
+    "RegPair",
+    "RegOutPair",
+    "RegOutTriple",
+    "RegList",
+    "RegOutList",
+    "RegCount",
+    "Imm",
+    "Idx",
+    "UImm",
+    "NativeContextIndex",
+    "Flag8",
+    "Flag16",
+    "RuntimeId",
+    "IntrinsicId",
+];
+
+/// Layout values 3 to 11.
+const FIELDS: [&str; 9] = [
+    "constant_pool",
+    "handler_table",
+    "source_position_table",
+    "length",
+    "frame_size",
+    "parameter_size",
+    "osr_loop_nesting_level",
+    "osr_urgency_and_install_target",
+    "bytecode_age",
+];
+
+// ---- the table files ----
+
+/// opcodes, types, runtime names, intrinsic names, layout.
+pub fn table(table: &VersionTable) -> Result<[Vec<u8>; 5], String> {
+    let types = types_of(table);
+    Ok([
+        opcodes(table, &types)?,
+        type_records(table, &types)?,
+        names("runtime function", &table.runtime_names, 1_024)?,
+        names("intrinsic", &table.intrinsic_names, 256)?,
+        layout(table)?,
+    ])
+}
+
+/// The types by number: the 17 of the records, then all others that an opcode uses, by name.
+fn types_of(table: &VersionTable) -> Vec<&str> {
+    let used = table.bytecodes.iter().flat_map(|b| b.operands.iter().map(String::as_str));
+    let other: BTreeSet<&str> = used.filter(|name| !TYPE_NAMES.contains(name)).collect();
+    TYPE_NAMES.into_iter().chain(other).collect()
+}
+
+fn opcodes(table: &VersionTable, types: &[&str]) -> Result<Vec<u8>, String> {
+    within("opcodes", table.bytecodes.len(), 1, 256)?;
+    let mut out = Vec::new();
+    for (k, def) in table.bytecodes.iter().enumerate() {
+        let what = format!("opcode {k:#04x}");
+        out.extend(name(&what, &def.name, 40)?);
+        if def.operands.len() > MOST_OPERANDS {
+            return Err(format!(
+                "{what} ({}) has {} operands, more than 8",
+                def.name,
+                def.operands.len()
+            ));
+        }
+        // Any other mark is none: the decoder knows these two.
+        let prefix = match def.prefix.as_deref() {
+            Some("Wide") => 1,
+            Some("ExtraWide") => 2,
+            _ => 0,
+        };
+        let mut rest = vec![prefix, def.operands.len() as u8];
+        for operand in &def.operands {
+            // `types_of` has every operand's type; that it is below 64 is tested with the type records.
+            rest.push(types.iter().position(|t| t == operand).unwrap_or(0) as u8);
+        }
+        rest.resize(64 - 40, 0);
+        out.extend(rest);
+    }
+    Ok(out)
+}
+
+fn type_records(table: &VersionTable, types: &[&str]) -> Result<Vec<u8>, String> {
+    within("operand types", types.len(), 17, 64)?;
+    let mut out = Vec::new();
+    for ty in types {
+        out.extend(name("operand type", ty, 28)?);
+        // A type that the table lacks reads as size 1, scalable, as in the decoder.
+        out.extend(match table.operand_types.get(*ty) {
+            None => [0; 4],
+            Some(OperandTypeInfo { size: size @ (1 | 2), scalable }) => {
+                [*size as u8, *scalable as u8, 1, 0]
+            }
+            Some(OperandTypeInfo { size: 4, scalable: false }) => [4, 0, 1, 0],
+            Some(OperandTypeInfo { size, scalable }) => {
+                let scales = if *scalable { "scalable" } else { "fixed" };
+                return Err(format!(
+                    "operand type {ty} has size {size}, {scales}: no record says that"
+                ));
+            }
+        });
+    }
+    Ok(out)
+}
+
+fn names(what: &str, names: &[String], most: usize) -> Result<Vec<u8>, String> {
+    within(&format!("{what} names"), names.len(), 0, most)?;
+    let mut out = Vec::new();
+    for (k, n) in names.iter().enumerate() {
+        out.extend(name(&format!("{what} {k}"), n, 64)?);
+    }
+    Ok(out)
+}
+
+/// A name field: letters, digits and underscores, then zeros.
+fn name(what: &str, name: &str, width: usize) -> Result<Vec<u8>, String> {
+    let good = |b: u8| b.is_ascii_alphanumeric() || b == b'_';
+    if name.is_empty() || name.len() > width {
+        let length = name.len();
+        return Err(format!("{what}: the name {name:?} has {length} bytes, not 1 to {width}"));
+    }
+    if let Some(c) = name.chars().find(|c| !c.is_ascii() || !good(*c as u8)) {
+        return Err(format!("{what}: the name {name:?} has the character {c:?}"));
+    }
+    let mut out = name.as_bytes().to_vec();
+    out.resize(width, 0);
+    Ok(out)
+}
+
+fn within(what: &str, count: usize, least: usize, most: usize) -> Result<(), String> {
+    match (least..=most).contains(&count) {
+        true => Ok(()),
+        false => Err(format!("{count} {what}, not {least} to {most}")),
+    }
+}
+
+/// Twenty values. What the table lacks is written as `render_sfi` and `FamilyLayout` take it then.
+fn layout(table: &VersionTable) -> Result<Vec<u8>, String> {
+    let ts = table.tagged_size;
+    if ts != 4 && ts != 8 {
+        return Err(format!("tagged size {ts}, not 4 or 8"));
+    }
+    let unit = table.capture_tagged_size;
+    if ![0, 4, 8].contains(&unit) {
+        return Err(format!("capture unit {unit}, not 0, 4 or 8"));
+    }
+    let array = table.bytecode_array.clone();
+    let array = array.unwrap_or_else(|| BytecodeArrayLayout::fallback(ts as usize));
+    let mut values = vec![ts as u32, unit as u32, offset("header_size", array.header_size)?];
+    for field in FIELDS {
+        // Slots come from the table alone: without a layout they are 2, 3 and 4, as for an absent value.
+        let slot = FIELDS[..3].contains(&field);
+        values.push(match array.off(field) {
+            Some(at) if !(slot && table.bytecode_array.is_none()) => offset(field, at)?,
+            _ => ABSENT,
+        });
+    }
+    values.push(table.parameter_count.is_some_and(|c| c.direct) as u32);
+    let frame = crate::bytecode::FamilyLayout::from_table(table);
+    let base = frame.param_base.unwrap_or(0);
+    let signed =
+        [frame.reg_file_start, frame.context_index, frame.closure_index, frame.first_param, base];
+    values.extend(signed.map(|v| v as u32));
+    values.extend([frame.param_base.is_some() as u32, 0]);
+    Ok(values.iter().flat_map(|v| v.to_le_bytes()).collect())
+}
+
+fn offset(field: &str, at: usize) -> Result<u32, String> {
+    match at {
+        0..=65_535 => Ok(at as u32),
+        _ => Err(format!("offset {at} of {field} in the BytecodeArray is above 65535")),
+    }
+}
+
+// ---- the store files of a function ----
+
+/// objects, slots, payload of a BytecodeArray: object 0, and its constant pool as object 1. References to any other object are
+/// "other references", which the listing reads alike; the payload holds the runs of these two objects alone.
+pub fn function(
+    cache: &CodeCache,
+    table: &VersionTable,
+    bytecode_array: ObjId,
+) -> Result<[Vec<u8>; 3], String> {
+    if cache.tagged_size() != table.tagged_size as usize {
+        let (is, says) = (cache.tagged_size(), table.tagged_size);
+        return Err(format!("the cache has tagged size {is}, the table {says}"));
+    }
+    if !cache.objects.get(bytecode_array).is_some_and(|o| o.ty.is(table, "BytecodeArray")) {
+        return Err(format!("object {bytecode_array} is no BytecodeArray"));
+    }
+    let layout = crate::bytecode::FamilyLayout::from_table(table);
+    let pool_slot = Disassembler::new(cache, table, layout).bca_constant_pool_slot();
+    let pool = cache
+        .slot_at(bytecode_array, pool_slot)
+        .and_then(|v| v.as_ref())
+        .and_then(|r| cache.ref_object(r));
+    let mut numbers = BTreeMap::from([(bytecode_array, 0)]);
+    if let Some(pool) = pool {
+        if pool >= cache.objects.len() {
+            return Err(format!("the constant pool is object {pool}, which is not there"));
+        }
+        let next = numbers.len() as u32;
+        numbers.entry(pool).or_insert(next);
+    }
+    let mut store = Store { cache, numbers, slots: Vec::new(), payload: Vec::new() };
+    let mut objects = store.object(table, bytecode_array, Some(pool_slot))?;
+    if let Some(pool) = pool.filter(|pool| *pool != bytecode_array) {
+        objects.extend(store.object(table, pool, None)?);
+    }
+    let files = [objects, store.slots, store.payload];
+    for (body, name) in files.iter().zip(STORE_FILES) {
+        if body.len() > MOST_FILE {
+            return Err(format!("{name} would have {} bytes, more than {MOST_FILE}", body.len()));
+        }
+    }
+    Ok(files)
+}
+
+struct Store<'a, 'c> {
+    cache: &'a CodeCache<'c>,
+    /// The objects that are exported, with their numbers.
+    numbers: BTreeMap<ObjId, u32>,
+    slots: Vec<u8>,
+    payload: Vec<u8>,
+}
+
+/// A value's kind, number or offset, and length.
+type Value = (u8, u32, u32);
+
+impl Store<'_, '_> {
+    /// The record of an object, whose slots go behind those that are there. `through` is a slot where jscd looks through a weak
+    /// reference.
+    fn object(
+        &mut self,
+        table: &VersionTable,
+        id: ObjId,
+        through: Option<usize>,
+    ) -> Result<Vec<u8>, String> {
+        let object = self.cache.obj(id);
+        let kind = match () {
+            _ if object.ty.is(table, "BytecodeArray") => 1,
+            _ if object.ty.is(table, "ByteArray") => 2,
+            _ => 0,
+        };
+        let first = self.slots.len() / 24;
+        let mut last = 0;
+        let mut looked = false;
+        for slot in &object.slots {
+            if slot.index < last {
+                return Err(format!("object {id}: slot {} comes after slot {last}", slot.index));
+            }
+            last = slot.index;
+            // `slot_at` takes the first of equal indices.
+            let here = through == Some(slot.index) && !looked;
+            looked |= here;
+            self.slot(id, slot.index, &slot.value, here)?;
+        }
+        let size = u32::try_from(object.byte_size)
+            .map_err(|_| format!("object {id} has {} bytes", object.byte_size))?;
+        let mut out = vec![kind, object.raw_len as u8, 0, 0];
+        for field in [first as u32, object.slots.len() as u32, size] {
+            out.extend(field.to_le_bytes());
+        }
+        Ok(out)
+    }
+
+    fn slot(
+        &mut self,
+        id: ObjId,
+        index: usize,
+        value: &SlotValue,
+        through: bool,
+    ) -> Result<(), String> {
+        if index > MOST_INDEX {
+            return Err(format!("object {id}: slot {index} is above {MOST_INDEX}"));
+        }
+        let (kind, inner, (number, length), count) = match value {
+            SlotValue::Repeat(count, inner) => {
+                if *count > MOST_INDEX {
+                    return Err(format!("object {id}: slot {index} is repeated {count} times"));
+                }
+                let (kind, number, length) = self.value(id, inner)?;
+                (5, kind, (number, length), *count as u32)
+            }
+            SlotValue::WeakRef(_) if through => {
+                let (kind, number, length) = self.seen_through(id, value)?;
+                (kind, 0, (number, length), 0)
+            }
+            _ => {
+                let (kind, number, length) = self.value(id, value)?;
+                (kind, 0, (number, length), 0)
+            }
+        };
+        self.slots.extend((index as u32).to_le_bytes());
+        self.slots.extend([kind, inner, 0, 0]);
+        for field in [number, length, count, 0] {
+            self.slots.extend(field.to_le_bytes());
+        }
+        Ok(())
+    }
+
+    /// A value that is not repeated. Elements and runs are read past everything that is neither a reference nor a run, a weak
+    /// reference too; so that is "other". A repeat in a repeat holds no element, as a repeat of "other" holds none.
+    fn value(&mut self, id: ObjId, value: &SlotValue) -> Result<Value, String> {
+        Ok(match value {
+            SlotValue::Ref(r) => self.reference(*r),
+            SlotValue::Raw(raw) => self.run(id, *raw)?,
+            _ => (0, 0, 0),
+        })
+    }
+
+    /// The pool behind a weak (or protected) pointer, which jscd finds, and which no element of the pool is read through: the two may
+    /// not be one object.
+    fn seen_through(&mut self, id: ObjId, value: &SlotValue) -> Result<Value, String> {
+        match value.as_ref() {
+            Some(Ref::Object(pool)) if pool == id => {
+                Err(format!("object {id} is its own constant pool, by a weak reference: no record reads as that"))
+            }
+            Some(r @ Ref::Object(_)) => Ok(self.reference(r)),
+            _ => Ok((0, 0, 0)),
+        }
+    }
+
+    fn reference(&self, r: Ref) -> Value {
+        match r {
+            Ref::Object(to) => match self.numbers.get(&to) {
+                Some(number) => (1, *number, 0),
+                None => (3, 0, 0),
+            },
+            Ref::Root(_) => (2, 0, 0),
+            Ref::RoRef(..) | Ref::Attached(_) => (3, 0, 0),
+        }
+    }
+
+    /// A run goes behind the payload.
+    fn run(&mut self, id: ObjId, raw: Raw) -> Result<Value, String> {
+        let end = raw.off.checked_add(raw.len);
+        let Some(bytes) = end.and_then(|end| self.cache.payload().get(raw.off..end)) else {
+            let (off, len) = (raw.off, raw.len);
+            return Err(format!(
+                "object {id}: a run of {len} bytes at {off} is not in the payload"
+            ));
+        };
+        let at = self.payload.len() as u32;
+        self.payload.extend(bytes);
+        Ok((4, at, bytes.len() as u32))
+    }
+}
+
+// ---- all functions ----
+
+/// The SharedFunctionInfos that have bytecode, each with its BytecodeArray, found as `render_all` finds them.
+pub fn functions(cache: &CodeCache, table: &VersionTable) -> Vec<(ObjId, ObjId)> {
+    let layout = crate::bytecode::FamilyLayout::from_table(table);
+    let slots = Disassembler::new(cache, table, layout).sfi_function_data_slots();
+    let bytecode = |id: ObjId| {
+        slots.iter().find_map(|slot| match cache.slot_at(id, *slot) {
+            Some(SlotValue::Ref(Ref::Object(b))) => {
+                cache.objects.get(*b).filter(|o| o.ty.is(table, "BytecodeArray")).map(|_| *b)
+            }
+            _ => None,
+        })
+    };
+    (0..cache.objects.len())
+        .filter(|id| cache.obj(*id).ty.is(table, "SharedFunctionInfo"))
+        .filter_map(|id| bytecode(id).map(|b| (id, b)))
+        .collect()
+}
+
+/// What `write_all` did: the folders written, and those left out with the reason.
+#[derive(Debug, Default)]
+pub struct Written {
+    pub functions: Vec<String>,
+    pub refused: Vec<(String, String)>,
+}
+
+/// Writes `out/table` and a folder for each function, `out/NUMBER-NAME`. A function that the records cannot hold is left out and said; a
+/// table that they cannot hold is an error, and nothing is written.
+pub fn write_all(
+    cache: &CodeCache,
+    table: &VersionTable,
+    name_of: impl Fn(ObjId) -> String,
+    out: &Path,
+) -> Result<Written, String> {
+    let files = self::table(table)?;
+    put(&out.join("table"), &TABLE_FILES, &files)?;
+    let mut written = Written::default();
+    for (id, bytecode_array) in functions(cache, table) {
+        let folder = folder_name(id, &name_of(id));
+        match function(cache, table, bytecode_array) {
+            Ok(files) => {
+                put(&out.join(&folder), &STORE_FILES, &files)?;
+                written.functions.push(folder);
+            }
+            Err(message) => written.refused.push((folder, message)),
+        }
+    }
+    Ok(written)
+}
+
+/// The object's number, so that no two are the same, and what of the name a file name can hold.
+fn folder_name(id: ObjId, name: &str) -> String {
+    let kept = name.chars().filter(|c| c.is_ascii_alphanumeric() || *c == '_' || *c == '$');
+    let kept: String = kept.take(60).collect();
+    match kept.is_empty() {
+        true => format!("{id:06}"),
+        false => format!("{id:06}-{kept}"),
+    }
+}
+
+fn put(folder: &Path, names: &[&str], files: &[Vec<u8>]) -> Result<(), String> {
+    let fail = |path: &Path, e: std::io::Error| format!("{}: {e}", path.display());
+    std::fs::create_dir_all(folder).map_err(|e| fail(folder, e))?;
+    for (name, body) in names.iter().zip(files) {
+        let path = folder.join(name);
+        std::fs::write(&path, body).map_err(|e| fail(&path, e))?;
+    }
+    Ok(())
+}

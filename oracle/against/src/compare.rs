@@ -1,0 +1,356 @@
+//! Both sides asked, what they said counted, and a difference made small.
+
+use crate::cases::Function;
+use crate::sides::{Ours, Rust, Said};
+use oracle::random::Random;
+use oracle::records::*;
+use std::collections::BTreeMap;
+use std::fmt;
+
+/// As long as the listing of nearly every case.
+const ROOM: usize = 1 << 18;
+/// So many differences are made small and shown.
+const SHOWN: usize = 20;
+/// The numbers that a listing, and one instruction, can be refused with.
+const OF_LISTING: [usize; 16] = [1, 2, 3, 4, 5, 6, 7, 8, 9, 11, 12, 13, 14, 15, 16, 17];
+const OF_DECODING: [usize; 12] = [1, 2, 3, 4, 5, 10, 11, 12, 13, 14, 15, 20];
+
+#[derive(Default)]
+pub struct Report {
+    /// Cases by kind, and calls by function.
+    pub cases: BTreeMap<&'static str, u64>,
+    /// Answers (0) and refusals by number, where both sides agree.
+    pub listed: [u64; 21],
+    pub decoded: [u64; 21],
+    pub not_comparable: u64,
+    pub differences: Vec<String>,
+    pub more: u64,
+}
+
+impl Report {
+    pub fn add(&mut self, other: Report) {
+        for (kind, count) in other.cases {
+            *self.cases.entry(kind).or_default() += count;
+        }
+        for k in 0..21 {
+            self.listed[k] += other.listed[k];
+            self.decoded[k] += other.decoded[k];
+        }
+        self.not_comparable += other.not_comparable;
+        self.differences.extend(other.differences);
+        self.more += other.more;
+    }
+
+    /// Refusals of which there was no case.
+    pub fn missing(&self, whole: bool) -> Vec<String> {
+        let none = |of: &str, numbers: &[usize], counts: &[u64]| -> Vec<String> {
+            let missing = numbers.iter().filter(|n| whole && counts[**n] == 0);
+            missing.map(|n| format!("no {of} was refused with number {n}")).collect()
+        };
+        let mut out = none("listing", &OF_LISTING, &self.listed);
+        out.extend(none("instruction", &OF_DECODING, &self.decoded));
+        out
+    }
+}
+
+impl fmt::Display for Report {
+    fn fmt(&self, f: &mut fmt::Formatter) -> fmt::Result {
+        for difference in &self.differences {
+            writeln!(f, "{difference}\n")?;
+        }
+        for (kind, count) in &self.cases {
+            writeln!(f, "{kind}: {count} cases")?;
+        }
+        for (what, counts) in [("listings", &self.listed), ("instructions", &self.decoded)] {
+            let refused: Vec<String> =
+                (1..21).filter(|n| counts[*n] > 0).map(|n| format!("{n}: {}", counts[n])).collect();
+            writeln!(f, "{what}: {} answered; refused {}", counts[0], refused.join(", "))?;
+        }
+        writeln!(f, "not comparable (two types of one name): {}", self.not_comparable)?;
+        for line in self.missing(true) {
+            writeln!(f, "{line}")?;
+        }
+        let (shown, more) = (self.differences.len() as u64, self.more);
+        writeln!(f, "{} differences", shown + more)
+    }
+}
+
+pub struct Compare {
+    ours: Ours,
+    rust: Rust,
+    pub report: Report,
+}
+
+impl Compare {
+    pub fn new() -> Compare {
+        Compare { ours: Ours::new(), rust: Rust::new(), report: Report::default() }
+    }
+
+    fn case(&mut self, kind: &'static str) {
+        *self.report.cases.entry(kind).or_default() += 1;
+    }
+
+    /// A function listed, with room that just fits or does not at times, and an instruction of its code decoded.
+    pub fn function(&mut self, r: &mut Random, function: &Function) {
+        self.case("codes");
+        let files = function.files();
+        if !self.list(&files, ROOM) {
+            self.smaller_function(function, ROOM);
+        }
+        self.rooms(r, &files);
+        let length = function.code.len() as u64;
+        let start = match r.below(8) {
+            0 => *r.pick(&[length, length + 1, u64::MAX, length + 1_000]),
+            _ => r.below(length + 1),
+        };
+        self.decode(&files, &function.code, start as usize);
+    }
+
+    /// The eight files, as they are, listed.
+    pub fn files(&mut self, r: &mut Random, kind: &'static str, files: &Files) {
+        self.case(kind);
+        if !self.list(files, ROOM) {
+            self.smaller_files(kind, files);
+        }
+        self.rooms(r, files);
+    }
+
+    /// A short code of the sample.
+    pub fn short(&mut self, files: &Files, code: &[u8], list: bool) {
+        self.case("short codes, decoded");
+        self.decode(files, code, 0);
+        if list {
+            self.case("short codes, listed");
+            if !self.list(files, ROOM) {
+                self.difference(format!("short code {code:02x?}"), files, ROOM);
+            }
+        }
+    }
+
+    /// Code that is as long as it may be, and longer.
+    pub fn limits(&mut self) {
+        let table = oracle::sample::table();
+        for length in [65_535, 65_536, 65_537, 100_000] {
+            let mut code = vec![0x02; length];
+            self.decode(&table, &code, length - 1);
+            self.decode(&table, &code, length + 1);
+            code[length - 1] = 0x03;
+            self.decode(&table, &code, length - 1);
+            for last in [0x02, 0x03, 0x0c] {
+                code[length - 1] = last;
+                let files = oracle::sample::function(&code, 8, &[]);
+                self.case("long codes");
+                if !self.list(&files, 1 << 22) {
+                    self.difference(
+                        format!("{length} bytes of 02, the last {last:02x}"),
+                        &files,
+                        1 << 22,
+                    );
+                }
+            }
+        }
+    }
+
+    /// Room for exactly the listing, for one byte less, and for less.
+    fn rooms(&mut self, r: &mut Random, files: &Files) {
+        if !r.once_in(16) {
+            return;
+        }
+        let Said::Text(text) = self.ours.list(files, ROOM) else { return };
+        let length = text.len();
+        for room in [length, length - 1, r.below(length as u64) as usize, 0] {
+            self.case("rooms");
+            if !self.list(files, room) {
+                self.difference(format!("room {room}"), files, room);
+            }
+        }
+    }
+
+    /// Whether both list alike; counted where they do.
+    fn list(&mut self, files: &Files, room: usize) -> bool {
+        let Ok(rust) = self.rust.list(files, room) else {
+            self.report.not_comparable += 1;
+            return true;
+        };
+        let same = self.ours.list(files, room) == rust;
+        if same {
+            self.report.listed[rust.number()] += 1;
+        }
+        same
+    }
+
+    pub fn decode(&mut self, files: &Files, code: &[u8], start: usize) {
+        let Ok(rust) = self.rust.decode(files, code, start) else {
+            self.report.not_comparable += 1;
+            return;
+        };
+        let ours = self.ours.decode(files, code, start);
+        if ours == rust {
+            self.report.decoded[rust.number()] += 1;
+            return;
+        }
+        let differs = |code: &[u8], compare: &mut Compare| {
+            let rust = compare.rust.decode(files, code, start);
+            rust.is_ok_and(|rust| compare.ours.decode(files, code, start) != rust)
+        };
+        let small = shrunk(code, |code| differs(code, self));
+        let (ours, rust) =
+            (self.ours.decode(files, &small, start), self.rust.decode(files, &small, start));
+        let rust = rust.map_or("not comparable".into(), |rust| rust.shown());
+        let what =
+            format!("decode {small:02x?} at {start}\n  ours {}\n  rust {rust}", ours.shown());
+        self.told(what + &tables(files));
+    }
+
+    // ---- differences ----
+
+    fn differs(&mut self, files: &Files, room: usize) -> bool {
+        let rust = self.rust.list(files, room);
+        rust.is_ok_and(|rust| self.ours.list(files, room) != rust)
+    }
+
+    /// The function with as little code and pool as still differs.
+    fn smaller_function(&mut self, function: &Function, room: usize) {
+        if self.report.differences.len() >= SHOWN {
+            self.report.more += 1;
+            return;
+        }
+        let code =
+            shrunk(&function.code, |code| self.differs(&function.with_code(code).files(), room));
+        let small = function.with_code(&code);
+        let pool = shrunk(&small.pool, |pool| self.differs(&small.with_pool(pool).files(), room));
+        let small = small.with_pool(&pool);
+        let what = format!("code {:02x?}, pool {:?}", small.code, small.pool);
+        self.difference(what, &small.files(), room);
+    }
+
+    /// The files with as few records and bytes as still differ.
+    fn smaller_files(&mut self, kind: &str, files: &Files) {
+        if self.report.differences.len() >= SHOWN {
+            self.report.more += 1;
+            return;
+        }
+        let mut small = files.clone();
+        for file in [INTRINSIC, RUNTIME, OPCODES, TYPES, SLOTS, OBJECTS, PAYLOAD] {
+            let records: Vec<Vec<u8>> =
+                small.body[file].chunks(SIZES[file]).map(<[u8]>::to_vec).collect();
+            let base = small.clone();
+            let kept = shrunk(&records, |records| {
+                let mut files = base.clone();
+                files.body[file] = records.concat();
+                self.differs(&files, ROOM)
+            });
+            small.body[file] = kept.concat();
+        }
+        self.difference(kind.to_string(), &small, ROOM);
+    }
+
+    fn difference(&mut self, what: String, files: &Files, room: usize) {
+        let ours = self.ours.list(files, room).shown();
+        let rust = self.rust.list(files, room).map_or("not comparable".into(), |rust| rust.shown());
+        let store: Vec<String> = (OBJECTS..=PAYLOAD)
+            .map(|file| format!("\n  {} {}", NAMES[file], hex(&files.body[file])))
+            .collect();
+        let whole = format!(
+            "list, {what}\n  ours {ours}\n  rust {rust}{}{}",
+            store.concat(),
+            tables(files)
+        );
+        self.told(whole);
+    }
+
+    fn told(&mut self, difference: String) {
+        match self.report.differences.len() < SHOWN {
+            true => self.report.differences.push(difference),
+            false => self.report.more += 1,
+        }
+    }
+}
+
+fn tables(files: &Files) -> String {
+    (OPCODES..=LAYOUT)
+        .map(|file| format!("\n  {} {}", NAMES[file], hex(&files.body[file])))
+        .collect()
+}
+
+fn hex(bytes: &[u8]) -> String {
+    bytes.iter().map(|b| format!("{b:02x}")).collect()
+}
+
+/// A part of a list that still differs: halves taken away first, then shorter parts, then, of a short list, a part of any length at any
+/// place, until nothing more can go.
+pub fn shrunk<T: Clone>(items: &[T], mut differs: impl FnMut(&[T]) -> bool) -> Vec<T> {
+    const SHORT: usize = 200;
+    const PART: usize = 24;
+    let mut kept = items.to_vec();
+    let mut size = kept.len();
+    while size > 0 {
+        without(&mut kept, size, size, &mut differs);
+        size /= 2;
+    }
+    let mut before = usize::MAX;
+    while kept.len() < before && kept.len() <= SHORT {
+        before = kept.len();
+        for size in (1..=PART.min(before)).rev() {
+            without(&mut kept, size, 1, &mut differs);
+        }
+    }
+    kept
+}
+
+/// Takes parts of a size away, one after the other, where what is left differs still.
+fn without<T: Clone>(
+    kept: &mut Vec<T>,
+    size: usize,
+    step: usize,
+    differs: &mut impl FnMut(&[T]) -> bool,
+) {
+    let mut at = 0;
+    while at + size <= kept.len() {
+        let mut less = kept.clone();
+        less.drain(at..at + size);
+        match differs(&less) {
+            true => *kept = less,
+            false => at += step,
+        }
+    }
+}
+
+#[cfg(test)]
+mod tests {
+    use super::*;
+
+    #[test]
+    fn made_small() {
+        let items: Vec<u8> = (0..100).collect();
+        let differs = |kept: &[u8]| kept.contains(&7) && kept.contains(&93);
+        assert_eq!(shrunk(&items, differs), [7, 93]);
+        assert_eq!(shrunk(&items, |_| true), Vec::<u8>::new());
+        assert_eq!(shrunk(&[1, 2], |_| false), [1, 2]);
+        // Only whole parts of 5 can go.
+        assert_eq!(shrunk(&items, |kept| kept.len() % 5 == 0 && kept.contains(&7)).len(), 5);
+    }
+
+    /// The sides are told apart: with one byte of what the Rust is given changed, there is a difference, and it is small.
+    #[test]
+    fn a_difference_is_found() {
+        let mut compare = Compare::new();
+        let files = oracle::sample::sample();
+        assert!(compare.list(&files, ROOM));
+        let mut other = files.clone();
+        *other.body[PAYLOAD].last_mut().unwrap() = 0x02;
+        let rust = compare.rust.list(&other, ROOM).ok().unwrap();
+        assert_ne!(compare.ours.list(&files, ROOM), rust);
+        assert_ne!(
+            compare.ours.decode(&files, &[0x03, 1], 0),
+            compare.rust.decode(&files, &[0x03, 2], 0).ok().unwrap()
+        );
+    }
+
+    #[test]
+    fn a_report_names_what_is_missing() {
+        let report = Report::default();
+        assert_eq!(report.missing(true).len(), OF_LISTING.len() + OF_DECODING.len());
+        assert!(report.to_string().ends_with("0 differences\n"));
+    }
+}

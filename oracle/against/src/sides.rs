@@ -1,0 +1,238 @@
+//! One question put to both sides: our code through its archive, and the Rust with document 01's checks.
+
+use jscd_capi as ours;
+use oracle::ask::Answer;
+use oracle::checks::{self, Refusal};
+use oracle::decode;
+use oracle::port::{Port, TABLE};
+use oracle::records::*;
+
+/// What a side says.
+#[derive(Debug, Clone, PartialEq)]
+pub enum Said {
+    Text(Vec<u8>),
+    /// An instruction: opcode, scale, end, number of operands, and three numbers for each.
+    Numbers(Vec<u64>),
+    End,
+    Refused(u64, u64),
+    /// A refusal that wrote into its buffer, or an answer that wrote behind its length.
+    Stray(String),
+}
+
+impl Said {
+    /// The refusal's number, or 0.
+    pub fn number(&self) -> usize {
+        match self {
+            Said::Refused(number, _) => *number as usize,
+            _ => 0,
+        }
+    }
+
+    pub fn shown(&self) -> String {
+        match self {
+            Said::Text(text) => String::from_utf8_lossy(text).into_owned(),
+            Said::Numbers(numbers) => format!("{numbers:?}"),
+            Said::End => "end".into(),
+            Said::Refused(number, place) => format!("refused {number} at {place}"),
+            Said::Stray(what) => what.clone(),
+        }
+    }
+}
+
+impl From<Refusal> for Said {
+    fn from(r: Refusal) -> Said {
+        Said::Refused(r.number, r.place)
+    }
+}
+
+impl From<ours::Refusal> for Said {
+    fn from(r: ours::Refusal) -> Said {
+        Said::Refused(r.number as u64, r.place as u64)
+    }
+}
+
+/// A buffer is filled with this before each call.
+const FILLED: u8 = 0xa5;
+
+/// Our side, with its buffer.
+pub struct Ours {
+    room: Vec<u8>,
+    /// What the room is like before a call.
+    before: Vec<u8>,
+}
+
+impl Ours {
+    pub fn new() -> Ours {
+        Ours { room: Vec::new(), before: Vec::new() }
+    }
+
+    /// The listing of object 0 into a buffer of so many bytes; what it did to the rest of the buffer is looked at.
+    pub fn list(&mut self, files: &Files, room: usize) -> Said {
+        let [opcodes, types, runtime, intrinsic, layout, objects, slots, payload] = &files.body;
+        let lent =
+            ours::Files { opcodes, types, runtime, intrinsic, layout, objects, slots, payload };
+        if self.room.len() < room {
+            self.room.resize(room, FILLED);
+            self.before.resize(room, FILLED);
+        }
+        let out = &mut self.room[..room];
+        let answer = ours::list(&lent, 0, out);
+        let kept = *answer.as_ref().unwrap_or(&0);
+        if kept > room || out[kept..] != self.before[kept..room] {
+            self.room.fill(FILLED);
+            return Said::Stray(format!("{answer:?}, and wrote elsewhere"));
+        }
+        match answer {
+            Ok(length) => {
+                let text = out[..length].to_vec();
+                out[..length].fill(FILLED);
+                Said::Text(text)
+            }
+            Err(refusal) => refusal.into(),
+        }
+    }
+
+    pub fn decode(&self, files: &Files, code: &[u8], start: usize) -> Said {
+        let [opcodes, types, _, _, layout, ..] = &files.body;
+        match ours::decode(opcodes, types, layout, code, start) {
+            Ok(None) => Said::End,
+            Err(refusal) => refusal.into(),
+            Ok(Some(instr)) => {
+                let head = [instr.opcode as u64, instr.scale as u64, instr.end as u64];
+                let mut out = head.to_vec();
+                out.push(instr.operands.len() as u64);
+                out.extend(instr.operands.iter().flat_map(numbers));
+                Said::Numbers(out)
+            }
+        }
+    }
+}
+
+/// As in the oracle's vectors (FORMAT.md).
+fn numbers(operand: &ours::Operand) -> [u64; 3] {
+    match *operand {
+        ours::Operand::Reg(i) => [0, i as i64 as u64, 0],
+        ours::Operand::RegList { first, count } => [1, first as i64 as u64, count as u64],
+        ours::Operand::Imm(v) => [2, v as u64, 0],
+        ours::Operand::Idx(v) => [3, v as u64, 0],
+        ours::Operand::Flag8(v) => [4, v as u64, 0],
+        ours::Operand::Flag16(v) => [5, v as u64, 0],
+        ours::Operand::RuntimeId(v) => [6, v as u64, 0],
+        ours::Operand::IntrinsicId(v) => [7, v as u64, 0],
+        ours::Operand::Raw { ty, value } => [8, ty as u64, value],
+    }
+}
+
+/// The Rust's side. For each call it keeps the structures of the last table, which many cases share.
+pub struct Rust {
+    listing: Held,
+    decoding: Held,
+}
+
+/// The Rust cannot be asked: two types of one name that differ (it finds a type by its name).
+pub struct NotComparable;
+
+/// A table, what its checks say, and its structures where they are good.
+struct Held {
+    table: Files,
+    checked: Result<(), Refusal>,
+    port: Option<Port<'static>>,
+}
+
+impl Held {
+    fn new() -> Held {
+        Held { table: Files::default(), checked: checks::refuse(1, 0), port: None }
+    }
+
+    /// Takes those files of a table that a call is lent.
+    fn set(&mut self, files: &Files, lent: &[usize]) -> Result<(), NotComparable> {
+        if lent.iter().all(|file| self.table.body[*file] == files.body[*file])
+            && (self.checked.is_err() || self.port.is_some())
+        {
+            return Ok(());
+        }
+        for file in lent {
+            self.table.body[*file].clone_from(&files.body[*file]);
+        }
+        self.port = None;
+        self.checked = checks::table(&self.table, TABLE);
+        if self.checked.is_ok() {
+            let port = Port::new(&self.table, TABLE).map_err(|_| NotComparable)?;
+            self.port = Some(port.with_store(&NO_STORE));
+        }
+        Ok(())
+    }
+}
+
+impl Rust {
+    pub fn new() -> Rust {
+        Rust { listing: Held::new(), decoding: Held::new() }
+    }
+
+    /// The listing of object 0 into a buffer of so many bytes.
+    pub fn list(&mut self, files: &Files, room: usize) -> Result<Said, NotComparable> {
+        let held = &mut self.listing;
+        held.set(files, &[OPCODES, TYPES, RUNTIME, INTRINSIC, LAYOUT])?;
+        if let Err(refusal) = held.checked.and_then(|_| checks::store(files, usize::MAX)) {
+            return Ok(refusal.into());
+        }
+        let port = held.port.take().expect("the table is good").with_store(files);
+        let said = listing(&port, files, room);
+        held.port = Some(port.with_store(&NO_STORE));
+        Ok(said.unwrap_or_else(Said::from))
+    }
+
+    /// The instruction at a place. The call is lent no names.
+    pub fn decode(
+        &mut self,
+        files: &Files,
+        code: &[u8],
+        start: usize,
+    ) -> Result<Said, NotComparable> {
+        let held = &mut self.decoding;
+        held.set(files, &[OPCODES, TYPES, LAYOUT])?;
+        if let Err(refusal) = held.checked {
+            return Ok(refusal.into());
+        }
+        let port = held.port.as_ref().expect("the table is good");
+        Ok(match decode::checked(port, code, start as u64) {
+            Err(refusal) => refusal.into(),
+            Ok(None) => Said::End,
+            Ok(Some(ins)) => match oracle::ask::instruction(files, &ins) {
+                Answer::Found { words, .. } => {
+                    Said::Numbers(words.iter().map(|w| w.bits()).collect())
+                }
+                other => unreachable!("{other:?}"),
+            },
+        })
+    }
+}
+
+static NO_STORE: Files = Files {
+    body: [
+        Vec::new(),
+        Vec::new(),
+        Vec::new(),
+        Vec::new(),
+        Vec::new(),
+        Vec::new(),
+        Vec::new(),
+        Vec::new(),
+    ],
+};
+
+/// Header and instruction lines of `render_sfi`, after rows 8, 9 and 11 to 17.
+fn listing(port: &Port, files: &Files, room: usize) -> Result<Said, Refusal> {
+    let function = checks::function(files, 0)?;
+    checks::code_length(port.code_length(function))?;
+    for ins in &decode::all(port, port.code(function))? {
+        checks::switch(port, function, ins)?;
+    }
+    let mut whole = String::new();
+    let dis = port.disassembler();
+    dis.open_render_sfi(port.shared_function_info(), "", &mut whole).expect("the code decodes");
+    let from = whole.find('\n').map_or(0, |at| at + 1);
+    let to = whole[from..].find("\nConstant pool").map_or(whole.len(), |at| from + at + 1);
+    checks::output(to - from, room)?;
+    Ok(Said::Text(whole.as_bytes()[from..to].to_vec()))
+}
