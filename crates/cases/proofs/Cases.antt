@@ -19,14 +19,17 @@ use Rattle.bytecode.specs.Texts.{paramName, regName, listName, operandText, ins
 use Rattle.flow.specs.Flow.{flowNames, flows, flowNumber, flowBy}
 use Rattle.targets.specs.Targets.{operandOf, indexOf, numberOf, distanceBy, jumpTarget, jumpTable, tableBy, sizedBy}
 use Rattle.lines.specs.Line.{operandsBy}
+use Rattle.graph.specs.Graph.{isStart, exits, after, level, firstExit, finding}
+use Rattle.steps.specs.Steps.{entriesSteps, instrSteps, stepsAt, walkGraph}
 use Rattle.cases.specs.Sample.{padded, opcode, typed, opcodes, types, four, fours, layout}
-use Rattle.cases.specs.Rows.{shown, codes, rows}
+use Rattle.cases.specs.Rows.{shown, asked, rows}
 
--- P1 to P9
-pub cases : map shown codes ≡ rows
-unfolding shown codes rows opcodes opcode typed types padded four fours layout listFrom decodeAt headAt prefixOp firstFrom readParts partsFrom width isList
+-- P1 to P12
+pub cases : map shown asked ≡ rows
+unfolding shown asked rows opcodes opcode typed types padded four fours layout listFrom decodeAt headAt prefixOp firstFrom readParts partsFrom width isList
     kinds kindOf ofKind interpret leAt modulo wrap32 signed nameAt decimal lastDigits runtimeName paramName regName listName operandText instrName
     flowNames flows flowNumber flowBy isNamed operandOf indexOf numberOf distanceBy jumpTarget jumpTable tableBy sizedBy operandsBy
+    walkGraph stepsAt instrSteps entriesSteps finding firstExit level after exits isStart
 cases = refl
 
 -- the sample table is good
