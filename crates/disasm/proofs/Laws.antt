@@ -42,7 +42,11 @@ or-first : (a b : Check) → orElse a b ≡ Ok → a ≡ Ok
 or-first Ok b h = refl
 or-first (Refused r) b h = h
 
-module _ (v : View) (h : Header) (l : Listing) (o : List ℕ) (small : length o < 2 ^ 63) {u : List ℕ} {m : Pass} (w : Whole v h l [] u m) where
+-- the first pass, over an empty buffer
+module _ (v : View) (h : Header) (l : Listing) (o : List ℕ) (small : length o < 2 ^ 63) {b u : List ℕ} {m : Pass} (whole : Whole v h l b u m) (empty : b ≡ []) where
+  w : Whole v h l [] u m
+  w = simp empty at whole
+
   -- refused before anything is written
   pub pass-refused : (r : Refusal) → m .check ≡ Refused r → ListedAs (listView v h l o) (listed-as.Refused r) (u ++ o)
   unfolding listView

@@ -1,3 +1,4 @@
+use mathlib.Core.Path.{refl}
 use native.Mathlib.Omega.{arith}
 use denote.Ref.{now}
 use Rattle.disasm.proofs.Laws.{pass-refused, pass-short, pass-fits}
@@ -30,19 +31,19 @@ same-length : tie.Need-same-length
 same-length c = search needs
 
 returns : tie.Need-returns
-returns c = pass-refused _ _ _ (now (c .before .before .before .before .before .before .before .before .before .before .before .before .before .before .before .before .args .out)) (omega (arith, c .before .before .before .before .before .before .before .before .before .before .before .before .before .before .before .before .good)) (c .before .before .before .before .before .put-all .ensures) (c .before .check .given .0 .0) (c .before .check .given .1)
+returns c = pass-refused _ _ _ (now (c .before .before .before .before .before .before .before .before .before .before .before .before .before .before .before .before .args .out)) (omega (arith, c .before .before .before .before .before .before .before .before .before .before .before .before .before .before .before .before .good)) (c .before .before .before .before .before .put-all .ensures) refl (c .before .check .given .0 .0) (c .before .check .given .1)
 
 same-length-2 : tie.Need-same-length-2
 same-length-2 c = search needs
 
 returns-2 : tie.Need-returns-2
-returns-2 c = pass-fits _ _ _ (now (c .before .before .before .before .before .before .before .before .before .before .before .before .before .before .before .before .before .before .before .before .args .out)) (omega (arith, c .before .before .before .before .before .before .before .before .before .before .before .before .before .before .before .before .before .before .before .before .good)) (c .before .before .before .before .before .before .before .before .before .put-all .ensures) (c .before .before .before .before .before .enum-told .given .1) (c .before .before .before .before .if1 .taken) (c .before .before .put-all2 .ensures)
+returns-2 c = pass-fits _ _ _ (now (c .before .before .before .before .before .before .before .before .before .before .before .before .before .before .before .before .before .before .before .before .args .out)) (omega (arith, c .before .before .before .before .before .before .before .before .before .before .before .before .before .before .before .before .before .before .before .before .good)) (c .before .before .before .before .before .before .before .before .before .put-all .ensures) refl (c .before .before .before .before .before .enum-told .given .1) (omega (arith, c .before .before .before .before .if1 .taken)) (c .before .before .put-all2 .ensures)
 
 same-length-3 : tie.Need-same-length-3
 same-length-3 c = search needs
 
 returns-3 : tie.Need-returns-3
-returns-3 c = pass-short _ _ _ (now (c .before .before .before .before .before .before .before .before .before .before .before .before .before .before .before .before .args .out)) (omega (arith, c .before .before .before .before .before .before .before .before .before .before .before .before .before .before .before .before .good)) (c .before .before .before .before .before .put-all .ensures) (c .before .enum-told .given .1) (c .if1 .left)
+returns-3 c = pass-short _ _ _ (now (c .before .before .before .before .before .before .before .before .before .before .before .before .before .before .before .before .args .out)) (omega (arith, c .before .before .before .before .before .before .before .before .before .before .before .before .before .before .before .before .good)) (c .before .before .before .before .before .put-all .ensures) refl (c .before .enum-told .given .1) (omega (arith, c .if1 .left))
 
 pub list-code-spec : {M : Type 1} → statement M
 list-code-spec =
