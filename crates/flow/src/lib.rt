@@ -116,14 +116,30 @@ fn number_in(opcodes: &[u8], at: usize, from: u8, to: u8) -> u8
     requires { ⌜ OnlyIn (now opcodes) at from to ⌝ }
     ensures { λ r. ⌜ r ≡ flowNumber (now (opcodes .entry)) at ⌝ }
 {
+    if opcodes.len() <= at {
+        return 37;
+    }
+    let b = words::byte_at(opcodes, at + 6);
     let mut k = from;
     while k < to {
-        if has_flow_name(opcodes, at, k) {
+        if has_name_by(opcodes, at, k, b) {
             return k;
         }
         k += 1;
     }
     37
+}
+
+// Whether the record has name k, where its byte 6 is b. Byte 6 of the 37 names, which tells those that begin with JumpIf
+// apart, is compared first.
+fn has_name_by(opcodes: &[u8], at: usize, k: u8, b: u8) -> bool
+    requires { ⌜ (k < 37) × (getD (now opcodes) (at + 6) 0 ≡ b) ⌝ }
+    ensures { λ r. ⌜ r ≡ hasFlowName (now (opcodes .entry)) at k ⌝ }
+{
+    if words::byte_at(b"\0d\0w\0\0nooTFTTNNUUNJNRNTFTTNNUUNJNRNOO", k as usize) != b {
+        return false;
+    }
+    has_flow_name(opcodes, at, k)
 }
 
 // Whether the opcode record at place at has name k.
