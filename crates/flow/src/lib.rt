@@ -2,9 +2,10 @@
 // and `jump_table`. Later wishes read it from the opcode record instead; it stands behind `flow_of` alone.
 ghost use mathlib.Core.Path.{_≡_};
 ghost use Prim.Native.Nat.{_+_, _-_, _*_, _<_, _≤_};
-ghost use lib.ListN.{length};
+ghost use lib.ListN.{length, getD};
 ghost use Rattle.laws.specs.Scan.{firstFrom};
 ghost use Rattle.flow.specs.Flow.{plain, hasFlowName, flowNumber, flowBy, Numbered};
+ghost use Rattle.flow.specs.Only.{OnlyIn};
 
 pub enum Kind {
     // Goes to the next instruction.
@@ -84,18 +85,61 @@ fn plain(kind: Kind, pool: bool) -> Flow
     }
 }
 
-// The first of the 37 names that the opcode record at place at has; 37 where it has none.
+// The first of the 37 names that the opcode record at place at has; 37 where it has none. Its first byte says which it can have: for most
+// records none, and no name is compared.
 pub fn flow_number(opcodes: &[u8], at: usize) -> u8
     ensures { λ r. ⌜ r ≡ flowNumber (now (opcodes .entry)) at ⌝ }
 {
-    let mut k: u8 = 0;
-    while k < 37 {
-        if has_flow_name(opcodes, at, k) {
+    match words::byte_at(opcodes, at) {
+        b'A' => number_in(opcodes, at, 4, 5),
+        b'J' => number_in(opcodes, at, 5, 35),
+        b'R' => number_in(opcodes, at, 0, 4),
+        b'S' => number_of_s(opcodes, at),
+        b'T' => number_in(opcodes, at, 2, 3),
+        _ => 37,
+    }
+}
+
+// The number where the name begins with S.
+fn number_of_s(opcodes: &[u8], at: usize) -> u8
+    requires { ⌜ getD (now opcodes) at 0 ≡ 83 ⌝ }
+    ensures { λ r. ⌜ r ≡ flowNumber (now (opcodes .entry)) at ⌝ }
+{
+    if has_flow_name(opcodes, at, 1) {
+        return 1;
+    }
+    number_in(opcodes, at, 35, 37)
+}
+
+// The number where only the names from from, below to, can be the record's.
+fn number_in(opcodes: &[u8], at: usize, from: u8, to: u8) -> u8
+    requires { ⌜ OnlyIn (now opcodes) at from to ⌝ }
+    ensures { λ r. ⌜ r ≡ flowNumber (now (opcodes .entry)) at ⌝ }
+{
+    if opcodes.len() <= at {
+        return 37;
+    }
+    let b = words::byte_at(opcodes, at + 6);
+    let mut k = from;
+    while k < to {
+        if has_name_by(opcodes, at, k, b) {
             return k;
         }
         k += 1;
     }
-    k
+    37
+}
+
+// Whether the record has name k, where its byte 6 is b. Byte 6 of the 37 names, which tells those that begin with JumpIf
+// apart, is compared first.
+fn has_name_by(opcodes: &[u8], at: usize, k: u8, b: u8) -> bool
+    requires { ⌜ (k < 37) × (getD (now opcodes) (at + 6) 0 ≡ b) ⌝ }
+    ensures { λ r. ⌜ r ≡ hasFlowName (now (opcodes .entry)) at k ⌝ }
+{
+    if words::byte_at(b"\0d\0w\0\0nooTFTTNNUUNJNRNTFTTNNUUNJNRNOO", k as usize) != b {
+        return false;
+    }
+    has_flow_name(opcodes, at, k)
 }
 
 // Whether the opcode record at place at has name k.
