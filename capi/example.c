@@ -1,4 +1,5 @@
-/* Lists the function whose eight record files are in a folder, and decodes the first instruction of a small code by their tables.
+/* Lists the function whose eight record files are in a folder, checks its walks, and decodes the first instruction of a small code by their
+   tables.
      cc -Icapi/include capi/example.c target/staticlib/libcapi.a -o target/example && target/example crates/jscd_list/data */
 #include "jscd.h"
 #include <stdio.h>
@@ -29,7 +30,9 @@ int main(int argc, char **argv) {
     static const char *names[8] = {"opcodes.bin", "types.bin",   "runtime.bin", "intrinsic.bin",
                                    "layout.bin",  "objects.bin", "slots.bin",   "payload.bin"};
     static uint8_t out[MOST];
+    static uint8_t marks[MOST];
     struct file f[8];
+    size_t steps;
     size_t place;
     if (argc != 2) {
         fprintf(stderr, "usage: example FOLDER\n");
@@ -46,6 +49,16 @@ int main(int argc, char **argv) {
         return 1;
     }
     fwrite(out, 1, place, stdout);
+
+    answer = jscd_walk(marks, sizeof marks, f[0].bytes, f[0].length, f[1].bytes, f[1].length, f[2].bytes, f[2].length, f[3].bytes,
+                       f[3].length, f[4].bytes, f[4].length, f[5].bytes, f[5].length, f[6].bytes, f[6].length, f[7].bytes,
+                       f[7].length, 0, &steps, &place);
+    if (answer == JSCD_DONE)
+        printf("closed\n");
+    else if (answer == JSCD_LEAVES)
+        printf("leaves steps %zu from %zu\n", steps, place);
+    else
+        printf("refused %d at %zu\n", answer, place);
 
     static const uint8_t code[] = {0x03, 0xff};
     uint64_t numbers[JSCD_NUMBERS];

@@ -1,7 +1,7 @@
-//! Lists the function whose eight record files are in a folder.
+//! Lists the function whose eight record files are in a folder, and checks its walks.
 //!   cargo run --example list ../crates/jscd_list/data
 
-use jscd_capi::{list, Files};
+use jscd_capi::{list, walk, Files, Walked};
 use std::path::Path;
 
 const NAMES: [&str; 8] =
@@ -18,5 +18,9 @@ fn main() -> Result<(), Box<dyn std::error::Error>> {
     let mut out = vec![0; 65_536];
     let length = list(&files, 0, &mut out)?;
     print!("{}", std::str::from_utf8(&out[..length])?);
+    match walk(&files, 0, &mut out)? {
+        Walked::Closed => println!("closed"),
+        Walked::Leaves { steps, from } => println!("leaves steps {steps} from {from}"),
+    }
     Ok(())
 }

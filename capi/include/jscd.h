@@ -2,8 +2,8 @@
    crates/capi/src/lib.rt. x86-64 Linux.
 
    Bytes are lent as a pointer and a length; the pointer is not NULL, also for no bytes. What is lent as const is only read; `out`,
-   `place` and `numbers` overlap nothing else that is lent. No function keeps a pointer, allocates, prints or fails otherwise than
-   by its answer. A length is below 2^63. */
+   `marks`, `steps`, `place` and `numbers` overlap nothing else that is lent. No function keeps a pointer, allocates, prints or fails
+   otherwise than by its answer. A length is below 2^63. */
 #ifndef JSCD_H
 #define JSCD_H
 
@@ -14,8 +14,9 @@
 extern "C" {
 #endif
 
-/* Answers: JSCD_DONE, JSCD_END, or the number of a refusal, 1 to 20 (README.md, "Refusals"). */
+/* Answers: JSCD_DONE, JSCD_END, JSCD_LEAVES, or the number of a refusal, 1 to 20 (README.md, "Refusals"). */
 #define JSCD_DONE 0
+#define JSCD_LEAVES 254
 #define JSCD_END 255
 
 /* The listing of a BytecodeArray from the start of `out` on. The eight record files are those of document 01, in its order.
@@ -30,6 +31,23 @@ uint8_t jscd_list(uint8_t *out, size_t out_len,
                   const uint8_t *slots, size_t slots_len,
                   const uint8_t *payload, size_t payload_len,
                   size_t object, size_t *place);
+
+/* The walks through a BytecodeArray's code. `marks` has at least as many bytes as the code; of these the first, as many as the code has
+   bytes, are written, the others are as they were.
+   JSCD_DONE: no walk leaves; *steps and *place are 0, and a mark is 1 where a walk comes by, 0 elsewhere.
+   JSCD_LEAVES: a shortest walk that leaves has *steps steps, and *place is the lowest offset that such a one leaves from; a mark is 1 where
+   a walk comes by in fewer steps.
+   A refusal: *steps is 0, *place its place, and `marks` is as it was. */
+uint8_t jscd_walk(uint8_t *marks, size_t marks_len,
+                  const uint8_t *opcodes, size_t opcodes_len,
+                  const uint8_t *types, size_t types_len,
+                  const uint8_t *runtime, size_t runtime_len,
+                  const uint8_t *intrinsic, size_t intrinsic_len,
+                  const uint8_t *layout, size_t layout_len,
+                  const uint8_t *objects, size_t objects_len,
+                  const uint8_t *slots, size_t slots_len,
+                  const uint8_t *payload, size_t payload_len,
+                  size_t object, size_t *steps, size_t *place);
 
 /* Kinds of an operand, with its first and second number; signed ones are in two's complement. */
 #define JSCD_NONE 0        /* an unused place */

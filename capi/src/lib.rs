@@ -101,6 +101,53 @@ pub fn list(files: &Files, object: usize, out: &mut [u8]) -> Result<usize, Refus
     }
 }
 
+/// What a walk check finds.
+#[derive(Debug, Clone, Copy, PartialEq, Eq)]
+pub enum Walked {
+    /// No walk leaves.
+    Closed,
+    /// The steps of a shortest walk that leaves, and the lowest offset that one leaves from.
+    Leaves { steps: usize, from: usize },
+}
+
+/// The walks through a BytecodeArray's code, with marks for the offsets that they come by: at least as many as the code has bytes. After a
+/// refusal `marks` is as it was.
+pub fn walk(files: &Files, object: usize, marks: &mut [u8]) -> Result<Walked, Refusal> {
+    let (mut steps, mut place) = (0, 0);
+    let f = files;
+    // Safety: as in `list`; `marks`, `steps` and `place` are borrowed as `&mut`.
+    let number = unsafe {
+        jscd_walk(
+            marks.as_mut_ptr(),
+            marks.len(),
+            f.opcodes.as_ptr(),
+            f.opcodes.len(),
+            f.types.as_ptr(),
+            f.types.len(),
+            f.runtime.as_ptr(),
+            f.runtime.len(),
+            f.intrinsic.as_ptr(),
+            f.intrinsic.len(),
+            f.layout.as_ptr(),
+            f.layout.len(),
+            f.objects.as_ptr(),
+            f.objects.len(),
+            f.slots.as_ptr(),
+            f.slots.len(),
+            f.payload.as_ptr(),
+            f.payload.len(),
+            object,
+            &mut steps,
+            &mut place,
+        )
+    };
+    match number {
+        DONE => Ok(Walked::Closed),
+        LEAVES => Ok(Walked::Leaves { steps, from: place }),
+        _ => Err(Refusal { number, place }),
+    }
+}
+
 /// The instruction at a place of lent code; None at the code's end.
 pub fn decode(
     opcodes: &[u8],
@@ -136,6 +183,7 @@ pub fn decode(
 
 const DONE: u8 = 0;
 const END: u8 = 255;
+const LEAVES: u8 = 254;
 const NUMBERS: usize = 28;
 
 extern "C" {
@@ -159,6 +207,30 @@ extern "C" {
         payload: *const u8,
         payload_len: usize,
         object: usize,
+        place: *mut usize,
+    ) -> u8;
+
+    fn jscd_walk(
+        marks: *mut u8,
+        marks_len: usize,
+        opcodes: *const u8,
+        opcodes_len: usize,
+        types: *const u8,
+        types_len: usize,
+        runtime: *const u8,
+        runtime_len: usize,
+        intrinsic: *const u8,
+        intrinsic_len: usize,
+        layout: *const u8,
+        layout_len: usize,
+        objects: *const u8,
+        objects_len: usize,
+        slots: *const u8,
+        slots_len: usize,
+        payload: *const u8,
+        payload_len: usize,
+        object: usize,
+        steps: *mut usize,
         place: *mut usize,
     ) -> u8;
 

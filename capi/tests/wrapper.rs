@@ -1,6 +1,6 @@
 //! The wrapper on document 01's sample, whose files are in the listing program's data folder.
 
-use jscd_capi::{decode, list, Files, Operand, Refusal};
+use jscd_capi::{decode, list, walk, Files, Operand, Refusal, Walked};
 use std::path::Path;
 
 fn file(name: &str) -> Vec<u8> {
@@ -17,6 +17,15 @@ impl Sample {
         let names =
             ["opcodes", "types", "runtime", "intrinsic", "layout", "objects", "slots", "payload"];
         Sample { files: names.iter().map(|name| file(&format!("{name}.bin"))).collect() }
+    }
+
+    /// The sample with code of 5 bytes in place of its own.
+    fn with_code(code: [u8; 5]) -> Sample {
+        let mut sample = Sample::new();
+        let payload = sample.files.last_mut().unwrap();
+        let at = payload.len() - code.len();
+        payload[at..].copy_from_slice(&code);
+        sample
     }
 
     fn lent(&self) -> Files<'_> {
@@ -70,4 +79,33 @@ fn instructions() {
     assert_eq!(at(&[0x02, 0x01], 1), Err(Refusal { number: 12, place: 1 }));
     assert_eq!(at(&[0x02], 1), Ok(None));
     assert_eq!(at(&[0x02], 2), Err(Refusal { number: 20, place: 2 }));
+}
+
+/// Document 01's sample; its P11, `00 05 03 00 02`; its P12, `06 02 0b`, with two instructions behind it that no walk comes by. What is
+/// behind the code's marks is as it was.
+#[test]
+fn walks() {
+    let mut marks = [7; 6];
+    assert_eq!(walk(&Sample::new().lent(), 0, &mut marks), Ok(Walked::Closed));
+    assert_eq!(marks, [1, 0, 1, 0, 1, 7]);
+    let sample = Sample::with_code([0x00, 0x05, 0x03, 0x00, 0x02]);
+    let leaves = Walked::Leaves { steps: 2, from: 4 };
+    assert_eq!(walk(&sample.lent(), 0, &mut marks), Ok(leaves));
+    assert_eq!(marks, [1, 0, 0, 0, 1, 7]);
+    let sample = Sample::with_code([0x06, 0x02, 0x0b, 0x02, 0x02]);
+    assert_eq!(walk(&sample.lent(), 0, &mut marks), Ok(Walked::Closed));
+    assert_eq!(marks, [1, 0, 1, 0, 0, 7]);
+}
+
+/// Marks too few by one, an object that is not there, and code that ends in an operand; the marks are as they were.
+#[test]
+fn a_refusal_leaves_the_marks() {
+    let sample = Sample::new();
+    let mut marks = [7; 5];
+    assert_eq!(walk(&sample.lent(), 0, &mut marks[..4]), Err(Refusal { number: 18, place: 0 }));
+    assert_eq!(walk(&sample.lent(), 1, &mut marks), Err(Refusal { number: 8, place: 0 }));
+    let cut = Sample::with_code([0x02, 0x02, 0x02, 0x02, 0x03]);
+    assert_eq!(walk(&cut.lent(), 0, &mut marks), Err(Refusal { number: 14, place: 5 }));
+    assert_eq!(marks, [7; 5]);
+    assert_eq!(walk(&sample.lent(), 0, &mut marks), Ok(Walked::Closed));
 }

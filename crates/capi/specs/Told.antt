@@ -14,6 +14,8 @@ use Rattle.decoder.specs.declared.Decoded.{Decoded}
 use Rattle.targets.specs.Targets.{operandOf}
 use Rattle.disasm.specs.declared.Listed.{Listed}
 use Rattle.disasm.specs.declared.Listed.the-variants as listed-as
+use Rattle.walk.specs.declared.Walked.{Walked}
+use Rattle.walk.specs.declared.Walked.the-variants as walked
 
 -- 01: "An answer, or a refusal: its number and a place". An answer is number 0, and its place is the listing's length. Then the buffer.
 abbrev pub toldAs : Listed → List ℕ → ℕ × ℕ × List ℕ
@@ -22,6 +24,16 @@ toldAs (listed-as.Refused r) o = (r .number, r .place, o)
 
 abbrev pub listTold : Listed × List ℕ → ℕ × ℕ × List ℕ
 listTold a = toldAs (a .0) (a .1)
+
+-- The answer of a walk check, the steps, the place, and the marks. 01's "closed" is 0; its "leaves" is 254, with the steps and the offset
+-- left from. Where none are told, steps and place are 0.
+abbrev pub walkToldAs : Walked → List ℕ → ℕ × ℕ × ℕ × List ℕ
+walkToldAs walked.Closed m = (0, 0, 0, m)
+walkToldAs (walked.Leaves n o) m = (254, n, o, m)
+walkToldAs (walked.Refused r) m = (r .number, 0, r .place, m)
+
+abbrev pub walkTold : Walked × List ℕ → ℕ × ℕ × ℕ × List ℕ
+walkTold a = walkToldAs (a .0) (a .1)
 
 -- an operand's kind
 abbrev pub kindNumber : Operand → ℕ

@@ -1,16 +1,18 @@
 // The calls for C and Rust: numbers and lent bytes in, one number out. 0 is an answer, 1 to 20 a refusal's number, 255 the end of the
-// code. The place, or the answer's length, is written behind a pointer.
+// code, 254 a walk that leaves. The place, or the answer's length, is written behind a pointer.
 
 use decoder::Instr;
 use decoder::Outcome;
 use disasm::Listed;
 use operand::Operand;
+use walk::Walked;
 ghost use mathlib.Core.Path.{_≡_};
 ghost use Prim.Native.Nat.{_^_};
 ghost use Rattle.words.specs.Signed.{modulo};
 ghost use Rattle.disasm.specs.Listing.{listCall};
 ghost use Rattle.bytecode.specs.Decode.{decodeOne};
-ghost use Rattle.capi.specs.Told.{listTold, decodeTold, kindNumber, firstNumber, secondNumber, operandNumber, instrNumber, Numbers};
+ghost use Rattle.walk.specs.Walk.{walkCall};
+ghost use Rattle.capi.specs.Told.{listTold, walkTold, decodeTold, kindNumber, firstNumber, secondNumber, operandNumber, instrNumber, Numbers};
 
 // The listing of an object into `out`: its length in `place`, or the refusal's place, with `out` as it was.
 #[no_mangle]
@@ -47,6 +49,56 @@ pub extern "C" fn jscd_list(
             0
         }
         Listed::Refused(r) => {
+            *place = r.place;
+            r.number
+        }
+    }
+}
+
+// The walks of an object. 254: one leaves, its steps in `steps`, the offset it leaves from in `place`. Else `steps` is 0, and `place` the
+// refusal's place or 0. The marks are those of the walk check; after a refusal they are as they were.
+#[no_mangle]
+pub extern "C" fn jscd_walk(
+    marks: &mut [u8],
+    opcodes: &[u8],
+    types: &[u8],
+    runtime: &[u8],
+    intrinsic: &[u8],
+    layout: &[u8],
+    objects: &[u8],
+    slots: &[u8],
+    payload: &[u8],
+    object: usize,
+    steps: &mut usize,
+    place: &mut usize,
+) -> u8
+    ensures { λ r. ⌜ (r, now (steps .exit), now (place .exit), now (marks .exit)) ≡ walkTold (walkCall (record { opcodes = now (opcodes .entry); types = now (types .entry); runtime = now (runtime .entry); intrinsic = now (intrinsic .entry); layout = now (layout .entry); objects = now (objects .entry); slots = now (slots .entry); payload = now (payload .entry) }) object (now (marks .entry))) ⌝ }
+{
+    let walked = walk::walk(
+        marks,
+        opcodes,
+        types,
+        runtime,
+        intrinsic,
+        layout,
+        objects,
+        slots,
+        payload,
+        object,
+    );
+    match walked {
+        Walked::Closed => {
+            *steps = 0;
+            *place = 0;
+            0
+        }
+        Walked::Leaves(n, o) => {
+            *steps = n;
+            *place = o;
+            254
+        }
+        Walked::Refused(r) => {
+            *steps = 0;
             *place = r.place;
             r.number
         }
