@@ -1,4 +1,4 @@
-//! Our listing and the Rust's on the same functions, in one process.
+//! Our listing and the Rust's on the same functions, in one process, and our walk check beside them.
 //!
 //!   bench FOLDER [ROUNDS]        all functions of a folder of listings, then how cost grows with the code
 //!   bench once ours|rust FOLDER  each function once, for a count of instructions by valgrind
@@ -61,7 +61,7 @@ fn once(which: &str, folder: &Path) -> Result<(), String> {
 
 // ---- what is measured ----
 
-// A further call (the walk check) is one more function of `Room`, measured in `measure` and shown in `report` and `growth`.
+// A further call is one more function of `Room`, measured in `measure` and shown in `report` and `growth`.
 
 /// The buffers of both, made once: neither grows while it is measured.
 struct Room {
@@ -77,6 +77,14 @@ impl Room {
     /// The whole call: all checks of the eight files, and the listing.
     fn ours(&mut self, files: &Files) -> usize {
         ours::list(&lent(files), 0, &mut self.bytes).unwrap_or(0)
+    }
+
+    /// The whole call of the walk check, with the same checks of the files. It has marks for every code.
+    fn walk(&mut self, files: &Files) -> usize {
+        match ours::walk(&lent(files), 0, &mut self.bytes) {
+            Ok(ours::Walked::Leaves { steps, .. }) => steps,
+            _ => 0,
+        }
     }
 
     /// `render_sfi` on structures that are there already. It writes the pool behind the lines, too (see `pool`).
@@ -161,6 +169,7 @@ struct Medians {
     pool: f64,
     /// Our call on a function of no code with the same table files: what checking these costs.
     fixed: f64,
+    walk: f64,
 }
 
 fn measure(files: &Files, rounds: usize) -> Medians {
@@ -173,16 +182,18 @@ fn measure(files: &Files, rounds: usize) -> Medians {
         times_for(|| room.rust(&port)),
         times_for(|| room.pool(&port)),
         times_for(|| room.ours(&none)),
+        times_for(|| room.walk(files)),
     ];
-    let mut all = [const { Vec::new() }; 4];
+    let mut all = [const { Vec::new() }; 5];
     for _ in 0..rounds {
         all[0].push(time(times[0], || room.ours(files)));
         all[1].push(time(times[1], || room.rust(&port)));
         all[2].push(time(times[2], || room.pool(&port)));
         all[3].push(time(times[3], || room.ours(&none)));
+        all[4].push(time(times[4], || room.walk(files)));
     }
-    let [ours, rust, pool, fixed] = all.map(|mut values| median(&mut values));
-    Medians { ours, rust, pool, fixed }
+    let [ours, rust, pool, fixed, walk] = all.map(|mut values| median(&mut values));
+    Medians { ours, rust, pool, fixed, walk }
 }
 
 impl Medians {
@@ -197,9 +208,9 @@ impl Medians {
     }
 
     fn line(&self, name: &str, bytes: usize) -> String {
-        let Medians { ours, rust, pool, fixed } = self;
+        let Medians { ours, rust, pool, fixed, walk } = self;
         let (ratio, checked) = (self.ratio(), self.checked());
-        format!("{name:<10} {bytes:>6} {ours:>10.2} {fixed:>10.2} {rust:>10.2} {pool:>8.2} {ratio:>7.2} {checked:>8.2}")
+        format!("{name:<10} {bytes:>6} {ours:>10.2} {fixed:>10.2} {rust:>10.2} {pool:>8.2} {ratio:>7.2} {checked:>8.2} {walk:>10.2}")
     }
 }
 
@@ -210,10 +221,11 @@ fn report(functions: &[Real], rounds: usize) {
     println!("ours: the whole call, all checks of the files counted in; fixed: the same call for no code.");
     println!("rust: render_sfi on structures that are there; pool: the part of it that writes the pool, which");
     println!("our listing does not have. ratio: (rust - pool) / ours; checked: (rust - pool) / (ours - fixed).");
-    let heads = ["function", "bytes", "ours", "fixed", "rust", "pool", "ratio", "checked"];
-    let [a, b, c, d, e, f, g, h] = heads;
-    println!("{a:<10} {b:>6} {c:>10} {d:>10} {e:>10} {f:>8} {g:>7} {h:>8}");
-    let mut sum = Medians { ours: 0.0, rust: 0.0, pool: 0.0, fixed: 0.0 };
+    println!("walk: the whole call of our walk check, which the Rust does not have.");
+    let heads = ["function", "bytes", "ours", "fixed", "rust", "pool", "ratio", "checked", "walk"];
+    let [a, b, c, d, e, f, g, h, i] = heads;
+    println!("{a:<10} {b:>6} {c:>10} {d:>10} {e:>10} {f:>8} {g:>7} {h:>8} {i:>10}");
+    let mut sum = Medians { ours: 0.0, rust: 0.0, pool: 0.0, fixed: 0.0, walk: 0.0 };
     let mut ratios = Vec::new();
     for function in functions {
         let m = measure(&function.files, rounds);
@@ -222,6 +234,7 @@ fn report(functions: &[Real], rounds: usize) {
         sum.rust += m.rust;
         sum.pool += m.pool;
         sum.fixed += m.fixed;
+        sum.walk += m.walk;
         ratios.push(m.ratio());
     }
     println!("{}", sum.line("all", functions.iter().map(|f| f.code).sum()));
@@ -233,8 +246,9 @@ fn report(functions: &[Real], rounds: usize) {
 /// Code that grows: one-byte instructions, and the sample's instructions in turn.
 fn growth(rounds: usize) {
     println!();
-    println!("Listing by the length of the code: nanoseconds of processor time a byte of code.");
-    println!("{:<24} {:>7} {:>9} {:>9} {:>7}", "code", "bytes", "ours", "rust", "ratio");
+    println!("Listing and walk check by the length of the code: nanoseconds of processor time a byte of code.");
+    let [a, b, c, d, e, f] = ["code", "bytes", "ours", "rust", "ratio", "walk"];
+    println!("{a:<24} {b:>7} {c:>9} {d:>9} {e:>7} {f:>9}");
     for (name, unit) in [("LdaZero", &[0x02][..]), ("mixed", &MIXED)] {
         for kib in [1, 4, 16, 64] {
             let length = kib * 1024;
@@ -243,8 +257,9 @@ fn growth(rounds: usize) {
             let files = sample::function(&code, 8, &[]);
             let m = measure(&files, rounds.min(11));
             let per = |time: f64| time * 1000.0 / code.len() as f64;
-            let (ours, rust) = (per(m.ours), per(m.rust));
-            println!("{name:<24} {:>7} {ours:>9.2} {rust:>9.2} {:>7.2}", code.len(), rust / ours);
+            let (ours, rust, walk) = (per(m.ours), per(m.rust), per(m.walk));
+            let (bytes, ratio) = (code.len(), rust / ours);
+            println!("{name:<24} {bytes:>7} {ours:>9.2} {rust:>9.2} {ratio:>7.2} {walk:>9.2}");
         }
     }
 }

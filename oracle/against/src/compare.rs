@@ -14,6 +14,8 @@ const SHOWN: usize = 20;
 /// The numbers that a listing, and one instruction, can be refused with.
 const OF_LISTING: [usize; 16] = [1, 2, 3, 4, 5, 6, 7, 8, 9, 11, 12, 13, 14, 15, 16, 17];
 const OF_DECODING: [usize; 12] = [1, 2, 3, 4, 5, 10, 11, 12, 13, 14, 15, 20];
+/// The numbers that the walks of a function of code over a good table and store can be refused with.
+const OF_WALKS: [usize; 9] = [9, 11, 12, 13, 14, 15, 16, 18, 19];
 
 #[derive(Default)]
 pub struct Report {
@@ -22,6 +24,10 @@ pub struct Report {
     /// Answers (0) and refusals by number, where both sides agree.
     pub listed: [u64; 21],
     pub decoded: [u64; 21],
+    pub walked: [u64; 21],
+    /// Of the walks that are answered: closed, leaving.
+    pub closed: u64,
+    pub leaving: u64,
     pub not_comparable: u64,
     pub differences: Vec<String>,
     pub more: u64,
@@ -35,7 +41,10 @@ impl Report {
         for k in 0..21 {
             self.listed[k] += other.listed[k];
             self.decoded[k] += other.decoded[k];
+            self.walked[k] += other.walked[k];
         }
+        self.closed += other.closed;
+        self.leaving += other.leaving;
         self.not_comparable += other.not_comparable;
         self.differences.extend(other.differences);
         self.more += other.more;
@@ -49,6 +58,7 @@ impl Report {
         };
         let mut out = none("listing", &OF_LISTING, &self.listed);
         out.extend(none("instruction", &OF_DECODING, &self.decoded));
+        out.extend(none("walk check", &OF_WALKS, &self.walked));
         out
     }
 }
@@ -61,11 +71,21 @@ impl fmt::Display for Report {
         for (kind, count) in &self.cases {
             writeln!(f, "{kind}: {count} cases")?;
         }
-        for (what, counts) in [("listings", &self.listed), ("instructions", &self.decoded)] {
+        let counted = [
+            ("listings", &self.listed),
+            ("instructions", &self.decoded),
+            ("walk checks", &self.walked),
+        ];
+        for (what, counts) in counted {
             let refused: Vec<String> =
                 (1..21).filter(|n| counts[*n] > 0).map(|n| format!("{n}: {}", counts[n])).collect();
             writeln!(f, "{what}: {} answered; refused {}", counts[0], refused.join(", "))?;
         }
+        writeln!(
+            f,
+            "walk checks that are answered: {} closed, {} leave",
+            self.closed, self.leaving
+        )?;
         writeln!(f, "not comparable (two types of one name): {}", self.not_comparable)?;
         for line in self.missing(true) {
             writeln!(f, "{line}")?;
@@ -90,7 +110,7 @@ impl Compare {
         *self.report.cases.entry(kind).or_default() += 1;
     }
 
-    /// A function listed, with room that just fits or does not at times, and an instruction of its code decoded.
+    /// A function listed, with room that just fits or does not at times, an instruction of its code decoded, and its walks checked.
     pub fn function(&mut self, r: &mut Random, function: &Function) {
         self.case("codes");
         let files = function.files();
@@ -104,6 +124,15 @@ impl Compare {
             _ => r.below(length + 1),
         };
         self.decode(&files, &function.code, start as usize);
+        // By turns, so that the other cases of a seed are what they were without this one.
+        let turn = self.report.cases.get("walk checks").copied().unwrap_or(0);
+        let room = match turn % 8 {
+            0 => length / 2,
+            1 => length.saturating_sub(1),
+            2 => length,
+            _ => length + turn % 100,
+        };
+        self.walk(function, room as usize);
     }
 
     /// The eight files, as they are, listed.
@@ -177,6 +206,46 @@ impl Compare {
             self.report.listed[rust.number()] += 1;
         }
         same
+    }
+
+    /// The walks of a function, with so many marks: the answer and the marks.
+    fn walk(&mut self, function: &Function, room: usize) {
+        self.case("walk checks");
+        let files = function.files();
+        let Ok(rust) = self.rust.walk(&files, room) else {
+            self.report.not_comparable += 1;
+            return;
+        };
+        if self.ours.walk(&files, function.code.len(), room) == rust {
+            self.report.walked[rust.number()] += 1;
+            match rust {
+                Said::Walked(None, _) => self.report.closed += 1,
+                Said::Walked(Some(_), _) => self.report.leaving += 1,
+                _ => (),
+            }
+            return;
+        }
+        if self.report.differences.len() >= SHOWN {
+            self.report.more += 1;
+            return;
+        }
+        let code =
+            shrunk(&function.code, |code| self.walks_differ(&function.with_code(code), room));
+        let small = function.with_code(&code);
+        let files = small.files();
+        let ours = self.ours.walk(&files, code.len(), room).shown();
+        let rust = self.rust.walk(&files, room).map_or("not comparable".into(), |r| r.shown());
+        let what = format!(
+            "walk {code:02x?}, pool {:?}, {room} marks\n  ours {ours}\n  rust {rust}",
+            small.pool
+        );
+        self.told(what + &tables(&files));
+    }
+
+    fn walks_differ(&mut self, function: &Function, room: usize) -> bool {
+        let files = function.files();
+        let rust = self.rust.walk(&files, room);
+        rust.is_ok_and(|rust| self.ours.walk(&files, function.code.len(), room) != rust)
     }
 
     pub fn decode(&mut self, files: &Files, code: &[u8], start: usize) {
@@ -345,12 +414,17 @@ mod tests {
             compare.ours.decode(&files, &[0x03, 1], 0),
             compare.rust.decode(&files, &[0x03, 2], 0).ok().unwrap()
         );
+        assert_eq!(compare.ours.walk(&files, 5, 9), compare.rust.walk(&files, 9).ok().unwrap());
+        assert_ne!(compare.ours.walk(&files, 5, 9), compare.rust.walk(&other, 9).ok().unwrap());
     }
 
     #[test]
     fn a_report_names_what_is_missing() {
         let report = Report::default();
-        assert_eq!(report.missing(true).len(), OF_LISTING.len() + OF_DECODING.len());
+        assert_eq!(
+            report.missing(true).len(),
+            OF_LISTING.len() + OF_DECODING.len() + OF_WALKS.len()
+        );
         assert!(report.to_string().ends_with("0 differences\n"));
     }
 }

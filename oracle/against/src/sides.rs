@@ -6,6 +6,7 @@ use oracle::checks::{self, Refusal};
 use oracle::decode;
 use oracle::port::{Port, TABLE};
 use oracle::records::*;
+use oracle::walks::{self, Outcome};
 
 /// What a side says.
 #[derive(Debug, Clone, PartialEq)]
@@ -14,6 +15,8 @@ pub enum Said {
     /// An instruction: opcode, scale, end, number of operands, and three numbers for each.
     Numbers(Vec<u64>),
     End,
+    /// The walk check: steps and offset where a walk leaves, and the marks of the code.
+    Walked(Option<(usize, usize)>, Vec<u8>),
     Refused(u64, u64),
     /// A refusal that wrote into its buffer, or an answer that wrote behind its length.
     Stray(String),
@@ -33,6 +36,10 @@ impl Said {
             Said::Text(text) => String::from_utf8_lossy(text).into_owned(),
             Said::Numbers(numbers) => format!("{numbers:?}"),
             Said::End => "end".into(),
+            Said::Walked(None, marks) => format!("closed, marks {marks:?}"),
+            Said::Walked(Some((steps, from)), marks) => {
+                format!("leaves steps {steps} from {from}, marks {marks:?}")
+            }
             Said::Refused(number, place) => format!("refused {number} at {place}"),
             Said::Stray(what) => what.clone(),
         }
@@ -88,6 +95,25 @@ impl Ours {
                 out[..length].fill(FILLED);
                 Said::Text(text)
             }
+            Err(refusal) => refusal.into(),
+        }
+    }
+
+    /// The walks of object 0, with so many marks; of these the first `length` are the code's. What it did to the others is looked at.
+    pub fn walk(&mut self, files: &Files, length: usize, room: usize) -> Said {
+        let [opcodes, types, runtime, intrinsic, layout, objects, slots, payload] = &files.body;
+        let lent =
+            ours::Files { opcodes, types, runtime, intrinsic, layout, objects, slots, payload };
+        let mut marks = vec![FILLED; room];
+        let answer = ours::walk(&lent, 0, &mut marks);
+        let kept = if answer.is_ok() { length.min(room) } else { 0 };
+        if marks[kept..].iter().any(|mark| *mark != FILLED) {
+            return Said::Stray(format!("{answer:?}, and wrote elsewhere"));
+        }
+        marks.truncate(kept);
+        match answer {
+            Ok(ours::Walked::Closed) => Said::Walked(None, marks),
+            Ok(ours::Walked::Leaves { steps, from }) => Said::Walked(Some((steps, from)), marks),
             Err(refusal) => refusal.into(),
         }
     }
@@ -182,6 +208,19 @@ impl Rust {
         Ok(said.unwrap_or_else(Said::from))
     }
 
+    /// The walks of object 0, with so many marks: the check of `oracle::walks`, over the Rust's decoding, targets and entries.
+    pub fn walk(&mut self, files: &Files, room: usize) -> Result<Said, NotComparable> {
+        let held = &mut self.listing;
+        held.set(files, &[OPCODES, TYPES, RUNTIME, INTRINSIC, LAYOUT])?;
+        if let Err(refusal) = held.checked.and_then(|_| checks::store(files, usize::MAX)) {
+            return Ok(refusal.into());
+        }
+        let port = held.port.take().expect("the table is good").with_store(files);
+        let said = walked(&port, files, room);
+        held.port = Some(port.with_store(&NO_STORE));
+        Ok(said.unwrap_or_else(Said::from))
+    }
+
     /// The instruction at a place. The call is lent no names.
     pub fn decode(
         &mut self,
@@ -235,4 +274,16 @@ fn listing(port: &Port, files: &Files, room: usize) -> Result<Said, Refusal> {
     let to = whole[from..].find("\nConstant pool").map_or(whole.len(), |at| from + at + 1);
     checks::output(to - from, room)?;
     Ok(Said::Text(whole.as_bytes()[from..to].to_vec()))
+}
+
+/// The walk check, after rows 8 and 9.
+fn walked(port: &Port, files: &Files, room: usize) -> Result<Said, Refusal> {
+    let function = checks::function(files, 0)?;
+    checks::code_length(port.code_length(function))?;
+    let walked = walks::check(port, function, port.code(function), room as u64)?;
+    let left = match walked.outcome {
+        Outcome::Closed => None,
+        Outcome::Leaves { steps, from } => Some((steps, from)),
+    };
+    Ok(Said::Walked(left, walked.marks.iter().map(|mark| *mark as u8).collect()))
 }
