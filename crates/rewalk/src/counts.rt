@@ -19,14 +19,15 @@ pub struct Counts {
     pub codes: u64,
 }
 
-pub fn ask_file(bytes: &[u8]) -> Counts {
+// The calls of a file; those with a name are printed, or not.
+pub fn ask_file(bytes: &[u8], shows: bool) -> Counts {
     let mut counts = no_counts();
     let mut files = no_files();
     let mut at = 0;
     while at < bytes.len() {
         let item = item_at(bytes, at);
         files = files_after(bytes, files, item);
-        counts = counts_after(bytes, files, counts, item);
+        counts = counts_after(bytes, files, counts, item, shows);
         at = item.next;
     }
     counts
@@ -45,14 +46,23 @@ fn no_counts() -> Counts {
     }
 }
 
-fn counts_after(bytes: &[u8], files: Files, counts: Counts, item: Item) -> Counts {
+fn counts_after(bytes: &[u8], files: Files, counts: Counts, item: Item, shows: bool) -> Counts {
+    let number = if shows { more(counts.number) } else { 0 };
     let kind = item.kind;
     let body = item.body;
     match kind {
         0..=8 => counts,
         16..=24 => counts,
-        51 => counted(counts, 0, walks::of_object(bytes, files, lent(bytes, body))),
-        52 => counted(counts, 1, walks::of_code(bytes, files, lent(bytes, body))),
+        51 => counted(
+            counts,
+            0,
+            walks::of_object(bytes, files, lent(bytes, body), number),
+        ),
+        52 => counted(
+            counts,
+            1,
+            walks::of_code(bytes, files, lent(bytes, body), number),
+        ),
         53 => counts_each(bytes, files, counts, body),
         _ => counted(counts, 3, false),
     }

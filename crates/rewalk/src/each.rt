@@ -67,14 +67,7 @@ fn are_prefixes(
 }
 
 // One prefix, with each last byte.
-fn are_walked(
-    bytes: &[u8],
-    files: Files,
-    object: u64,
-    n: usize,
-    prefix: u64,
-    runs: &[u8],
-) -> bool {
+fn are_walked(bytes: &[u8], files: Files, object: u64, n: usize, prefix: u64, runs: &[u8]) -> bool {
     let mut run = no_run();
     let mut b: u16 = 0;
     while b < 256 {

@@ -39,8 +39,8 @@ fn walks_2() -> Total {
 
 fn walks_3() -> Total {
     let v8 = rewalk(b"walk-v8.vec", false);
-    let short = rewalk(b"walk-short.vec", false);
-    both(v8, short)
+    let few = rewalk(b"walk-few.vec", false);
+    both(v8, few)
 }
 
 fn print_total(calls: u64, walks: u64, differences: u64) {
@@ -88,10 +88,7 @@ fn rewalk_with(name: &[u8], shows: bool, buffer: &mut [u8]) -> Total {
     }
     io::write_all(STDOUT_FILENO, name);
     io::write_all(STDOUT_FILENO, b"\n");
-    if shows {
-        shown::show_file(&buffer[..n]);
-    }
-    print_counts(ask_file(&buffer[..n]))
+    print_counts(ask_file(&buffer[..n], shows))
 }
 
 fn nothing() -> Total {

@@ -3,6 +3,7 @@ use crate::items::Files;
 use crate::items::behind;
 use crate::items::file;
 use crate::said;
+use crate::shown;
 use header::HeaderAt;
 use jumps::Owner;
 use walk::Walked;
@@ -10,23 +11,24 @@ use walk::Walked;
 // In place of an object's number: no store and no pool.
 const NO_OBJECT: u64 = 18446744073709551615;
 
-// 19: object 0, with a mark buffer of the given length.
-pub fn of_object(bytes: &[u8], files: Files, call: &[u8]) -> bool {
+// 19: object 0, with a mark buffer of the given length. The call's number says whether it is printed.
+pub fn of_object(bytes: &[u8], files: Files, call: &[u8], number: u64) -> bool {
     let mut buffer = [7u8; 65540];
-    of_object_in(bytes, files, call, &mut buffer)
+    of_object_in(bytes, files, call, number, &mut buffer)
 }
 
-fn of_object_in(bytes: &[u8], files: Files, call: &[u8], buffer: &mut [u8]) -> bool {
+fn of_object_in(bytes: &[u8], files: Files, call: &[u8], number: u64, buffer: &mut [u8]) -> bool {
     let n = words::u64_at(call, 0) as usize;
     if buffer.len() < n {
         return false;
     }
     let marks = first(buffer, n);
     let walked = walk_object(bytes, files, marks);
+    shown::show(number, file(bytes, files, 8), walked);
     said::is_walked(behind(call, 8), walked, marks, code_len(bytes, files))
 }
 
-pub fn walk_object(bytes: &[u8], files: Files, marks: &mut [u8]) -> Walked {
+fn walk_object(bytes: &[u8], files: Files, marks: &mut [u8]) -> Walked {
     walk::walk(
         marks,
         file(bytes, files, 0),
@@ -64,12 +66,12 @@ fn code_len(bytes: &[u8], files: Files) -> usize {
 }
 
 // 20: the lent code, with a mark buffer of the given length.
-pub fn of_code(bytes: &[u8], files: Files, call: &[u8]) -> bool {
+pub fn of_code(bytes: &[u8], files: Files, call: &[u8], number: u64) -> bool {
     let mut buffer = [7u8; 65540];
-    of_code_in(bytes, files, call, &mut buffer)
+    of_code_in(bytes, files, call, number, &mut buffer)
 }
 
-fn of_code_in(bytes: &[u8], files: Files, call: &[u8], buffer: &mut [u8]) -> bool {
+fn of_code_in(bytes: &[u8], files: Files, call: &[u8], number: u64, buffer: &mut [u8]) -> bool {
     let n = words::u64_at(call, 8) as usize;
     if buffer.len() < n {
         return false;
@@ -77,6 +79,7 @@ fn of_code_in(bytes: &[u8], files: Files, call: &[u8], buffer: &mut [u8]) -> boo
     let marks = first(buffer, n);
     let code = file(bytes, files, 8);
     let walked = walk_code(bytes, files, words::u64_at(call, 0), code, marks);
+    shown::show(number, code, walked);
     said::is_walked(behind(call, 16), walked, marks, code.len())
 }
 
