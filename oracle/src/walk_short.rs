@@ -14,8 +14,8 @@ pub const POOL: [Option<i32>; 9] =
 /// The sample table has opcodes below 0c; 0c is the first without a record.
 const BELOW: u32 = 0x0d;
 
-/// The codes of 1 to 3 bytes of which all but the last are below 0d, without a pool and with one: few
-/// enough for a program that works out the whole table in each call.
+/// The codes of 1 and 2 bytes without a pool, and those of 1 to 3 bytes with one, of which all bytes
+/// but the last are below 0d: few enough for a program that reads the whole table in each call.
 pub fn record_few() -> Result<Writer, String> {
     let mut writer = Writer::default();
     let files = sample::function(&[], 8, &POOL);
@@ -23,9 +23,9 @@ pub fn record_few() -> Result<Writer, String> {
     for object in [NO_OBJECT, 0] {
         prefixes(&mut writer, &files, object, 0, 0..1)?;
         prefixes(&mut writer, &files, object, 1, 0..BELOW)?;
-        for high in 0..BELOW {
-            prefixes(&mut writer, &files, object, 2, high << 8..(high << 8) + BELOW)?;
-        }
+    }
+    for high in 0..BELOW {
+        prefixes(&mut writer, &files, 0, 2, high << 8..(high << 8) + BELOW)?;
     }
     Ok(writer)
 }
