@@ -140,15 +140,19 @@ mod tests {
         assert_eq!(vectors::replay(&recording.writer.out), Ok(recording.writer.calls));
     }
 
-    /// The crates `replay` and `relist` have copies of the recorded files.
+    /// The crates `replay`, `relist` and `rewalk` have copies of the recorded files.
     #[test]
     fn copies_are_current() {
         let oracle = std::path::Path::new(env!("CARGO_MANIFEST_DIR"));
         let replay = ["rows.vec", "store.vec", "code.vec", "v8.vec"].map(|name| ("replay", name));
         let relist = ["rows.vec", "named.vec", "list.vec", "jump.vec", "v8list.vec"];
-        for (held, name) in replay.into_iter().chain(relist.map(|name| ("relist", name))) {
-            let recorded = std::fs::read(oracle.join("recorded").join(name)).unwrap();
-            let copy = oracle.join("../crates").join(held).join("data").join(name);
+        let rewalk = ["walk-1", "walk-2", "walk-3", "walk-4", "walk-5", "walk-few", "walk-v8"];
+        let rewalk = rewalk.map(|name| ("rewalk", name.to_owned() + ".vec"));
+        let copies = replay.into_iter().chain(relist.map(|name| ("relist", name)));
+        let copies = copies.map(|(held, name)| (held, name.to_owned()));
+        for (held, name) in copies.chain(rewalk) {
+            let recorded = std::fs::read(oracle.join("recorded").join(&name)).unwrap();
+            let copy = oracle.join("../crates").join(held).join("data").join(&name);
             assert!(recorded == std::fs::read(copy).unwrap(), "{held} {name}");
         }
     }

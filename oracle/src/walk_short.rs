@@ -14,6 +14,22 @@ pub const POOL: [Option<i32>; 9] =
 /// The sample table has opcodes below 0c; 0c is the first without a record.
 const BELOW: u32 = 0x0d;
 
+/// The codes of 1 and 2 bytes without a pool, and those of 1 to 3 bytes with one, of which all bytes
+/// but the last are below 0d: few enough for a program that reads the whole table in each call.
+pub fn record_few() -> Result<Writer, String> {
+    let mut writer = Writer::default();
+    let files = sample::function(&[], 8, &POOL);
+    writer.files(&files);
+    for object in [NO_OBJECT, 0] {
+        prefixes(&mut writer, &files, object, 0, 0..1)?;
+        prefixes(&mut writer, &files, object, 1, 0..BELOW)?;
+    }
+    for high in 0..BELOW {
+        prefixes(&mut writer, &files, 0, 2, high << 8..(high << 8) + BELOW)?;
+    }
+    Ok(writer)
+}
+
 pub fn record() -> Result<Writer, String> {
     let mut writer = Writer::default();
     let files = sample::function(&[], 8, &POOL);
@@ -63,11 +79,12 @@ mod tests {
     use super::*;
     use crate::vectors;
 
-    /// The file in recorded/ is what is recorded today.
+    /// The files in recorded/ are what is recorded today.
     #[test]
-    fn recorded_file_is_current() {
+    fn recorded_files_are_current() {
         let recorded = include_bytes!("../recorded/walk-short.vec");
         assert!(recorded[..] == record().unwrap().out);
+        assert!(include_bytes!("../recorded/walk-few.vec")[..] == record_few().unwrap().out);
     }
 
     #[test]

@@ -28,7 +28,7 @@ const USAGE: &str = "usage:
   oracle record-named OUT             write vectors of some named listings, and print them
   oracle replay FILE                  ask every call of a vector file again
   oracle record-walk SEED OUT..       write vectors of the walk (five files), and count their classes
-  oracle record-walk-short OUT        write vectors of the walk over all short codes
+  oracle record-walk-short OUT [few]  write vectors of the walk over all short codes, or over few of them
   oracle record-walk-v8 FOLDER OUT    write vectors of the walk over V8's functions (v8-listings)
   oracle walk DIR [MARKS]             the walk over object 0's code with a mark buffer of so many bytes (65536)";
 
@@ -56,7 +56,8 @@ fn main() -> ExitCode {
         ["replay", file] => replay(file),
         ["record-walk", seed, out @ ..] => record_walk(seed, out),
         ["record-walk-v8", folder, out] => record_walk_v8(Path::new(folder), out),
-        ["record-walk-short", out] => record_walk_short(out),
+        ["record-walk-short", out] => record_walk_short(out, false),
+        ["record-walk-short", out, "few"] => record_walk_short(out, true),
         ["walk", folder] => walk(Path::new(folder), "65536"),
         ["walk", folder, marks] => walk(Path::new(folder), marks),
         _ => Err(USAGE.into()),
@@ -247,8 +248,8 @@ fn record_walk_v8(folder: &Path, out: &str) -> Result<bool, String> {
     Ok(recording.others.is_empty())
 }
 
-fn record_walk_short(out: &str) -> Result<bool, String> {
-    let vectors = walk_short::record()?;
+fn record_walk_short(out: &str, few: bool) -> Result<bool, String> {
+    let vectors = if few { walk_short::record_few()? } else { walk_short::record()? };
     std::fs::write(out, &vectors.out).map_err(|e| format!("{out}: {e}"))?;
     println!("{} calls, {} bytes", vectors.calls, vectors.out.len());
     Ok(true)

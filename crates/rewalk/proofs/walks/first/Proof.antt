@@ -1,0 +1,23 @@
+use mathlib.Core.Path.{sym}
+use native.Mathlib.Omega.{arith}
+use lib.Seq.{length-take-le}
+use borrow.Author.Needs.{needs}
+use Rattle.rewalk.proofs.walks.first.Statement.{statement}
+use Rattle.rewalk.proofs.walks.first.Tie as tie
+use Rattle.rewalk.proofs.walks.first.Reads as reads
+use Rattle.rewalk.proofs.walks.first.Lts as lts
+
+-- src/walks.rt:47:9
+slice-aggregate-result : tie.Need-slice-aggregate-result
+slice-aggregate-result c = sym (length-take-le _ _ (omega (arith, c .before .if1 .taken)))
+
+-- src/walks.rt:47:9
+returns : tie.Need-returns
+returns c = search needs
+
+-- src/walks.rt:45:1
+returns-2 : tie.Need-returns-2
+returns-2 c = search needs
+
+pub first-spec : {M : Type 1} → statement M
+first-spec = tie.close (tie.spec slice-aggregate-result returns returns-2)

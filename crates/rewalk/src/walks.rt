@@ -1,0 +1,105 @@
+// The walk check of object 0 and of lent code.
+use crate::items::Files;
+use crate::items::behind;
+use crate::items::file;
+use crate::said;
+use crate::shown;
+use header::HeaderAt;
+use jumps::Owner;
+use walk::Walked;
+
+// In place of an object's number: no store and no pool.
+const NO_OBJECT: u64 = 18446744073709551615;
+
+// 19: object 0, with a mark buffer of the given length. The call's number says whether it is printed.
+pub fn of_object(bytes: &[u8], files: Files, call: &[u8], number: u64) -> bool {
+    let mut buffer = [7u8; 65540];
+    of_object_in(bytes, files, call, number, &mut buffer)
+}
+
+fn of_object_in(bytes: &[u8], files: Files, call: &[u8], number: u64, buffer: &mut [u8]) -> bool {
+    let n = words::u64_at(call, 0) as usize;
+    if buffer.len() < n {
+        return false;
+    }
+    let marks = first(buffer, n);
+    let walked = walk_object(bytes, files, marks);
+    shown::show(number, file(bytes, files, 8), walked);
+    said::is_walked(behind(call, 8), walked, marks, code_len(bytes, files))
+}
+
+fn walk_object(bytes: &[u8], files: Files, marks: &mut [u8]) -> Walked {
+    walk::walk(
+        marks,
+        file(bytes, files, 0),
+        file(bytes, files, 1),
+        file(bytes, files, 2),
+        file(bytes, files, 3),
+        file(bytes, files, 4),
+        file(bytes, files, 5),
+        file(bytes, files, 6),
+        file(bytes, files, 7),
+        0,
+    )
+}
+
+// The first n marks, or all.
+pub fn first<'a>(marks: &'a mut [u8], n: usize) -> &'a mut [u8] {
+    if n <= marks.len() {
+        return &mut marks[..n];
+    }
+    marks
+}
+
+// The length of object 0's code, 0 where it is refused.
+fn code_len(bytes: &[u8], files: Files) -> usize {
+    let header = header::header_of(
+        file(bytes, files, 6),
+        file(bytes, files, 7),
+        store::object_of(file(bytes, files, 5), 0),
+        tables::layout_of(file(bytes, files, 4)),
+    );
+    match header {
+        HeaderAt::At(h) => h.code_len,
+        HeaderAt::Refused(_) => 0,
+    }
+}
+
+// 20: the lent code, with a mark buffer of the given length.
+pub fn of_code(bytes: &[u8], files: Files, call: &[u8], number: u64) -> bool {
+    let mut buffer = [7u8; 65540];
+    of_code_in(bytes, files, call, number, &mut buffer)
+}
+
+fn of_code_in(bytes: &[u8], files: Files, call: &[u8], number: u64, buffer: &mut [u8]) -> bool {
+    let n = words::u64_at(call, 8) as usize;
+    if buffer.len() < n {
+        return false;
+    }
+    let marks = first(buffer, n);
+    let code = file(bytes, files, 8);
+    let walked = walk_code(bytes, files, words::u64_at(call, 0), code, marks);
+    shown::show(number, code, walked);
+    said::is_walked(behind(call, 16), walked, marks, code.len())
+}
+
+pub fn walk_code(bytes: &[u8], files: Files, object: u64, code: &[u8], marks: &mut [u8]) -> Walked {
+    walk::walk_code(
+        marks,
+        code,
+        file(bytes, files, 0),
+        file(bytes, files, 1),
+        file(bytes, files, 4),
+        file(bytes, files, 5),
+        file(bytes, files, 6),
+        file(bytes, files, 7),
+        owner(object),
+    )
+}
+
+fn owner(object: u64) -> Owner {
+    if object == NO_OBJECT {
+        return Owner::Nothing;
+    }
+    Owner::Object(object as usize)
+}
