@@ -79,11 +79,7 @@ listed-call f =
 
 limited-call : (f : Files) → Call (limited f)
 unfolding limited
-limited-call f =
-    checked
-    (orElse (checkTable (f .opcodes) (f .types) (f .runtime) (f .intrinsic) (f .layout))
-    (unlessGood (withinLimit (length (f .objects)) (length (f .slots)) (length (f .payload))) 6))
-    (listCall f 0) (listed-call f)
+limited-call f = checked (limitCheck f) (listCall f 0) (listed-call f)
 
 -- An answer on the buffer o, the buffer that it left, and the text t: the listing is t, with the rest of o behind it; a refusal leaves o.
 abbrev Told : List ℕ → Listed → List ℕ → List ℕ → Type 0
