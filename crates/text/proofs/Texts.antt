@@ -1,17 +1,16 @@
--- The laws of the texts: a decimal's last digit, one more element's text, the sign, and the rule of the table of hexadecimal digits.
+-- The laws of the texts: a decimal's last digit, how many it has, one more element's text, and the sign.
 -- Assumes nothing.
-use Prim.Native.Nat.{ℕ, zero, suc, _+_, _*_, _/_, _%_, _<_, _≤_, _^_}
-use mathlib.Core.Bool.{Bool, true, false}
+use Prim.Native.Nat.{ℕ, zero, suc, _+_, _/_, _%_, _<_, _≤_, _^_}
+use mathlib.Core.Bool.{Bool, true, false, cond}
 use mathlib.Core.List.{List, [], _∷_, _++_, append-assoc, append-nil, flatMap}
-use mathlib.Core.Path.{_≡_, refl}
+use mathlib.Core.Path.{_≡_, refl, ap, _∙_}
 use native.Mathlib.Omega.{arith}
 use native.Mathlib.Nat.{pow-suc, not-suc-le-zero, le-of-suc-le-suc}
 use native.Mathlib.Numerals.{add-one}
 use borrow.Author.Tests.{lt-ltb, le-ltb}
-use lib.Dec.{T, eqb, eqb→eq}
+use lib.Dec.{ltb}
 use lib.IntN.{ℤ, pos, negsuc, natAbs}
-use lib.ListN.{length, take, drop, getD}
-use Rattle.laws.proofs.Table.{at, every}
+use lib.ListN.{length, take, drop, getD, length-append}
 use Rattle.words.specs.Signed.{negative}
 use Rattle.text.specs.Texts.{lastDigits, decimal, signedDecimal, hexByte, nextHex, hexBytes}
 
@@ -35,6 +34,43 @@ longer k n h = rw (le-ltb n 10 h)
 pub decimal-more : (n : ℕ) → n < 2 ^ 64 → 10 ≤ n → decimal n ≡ decimal (n / 10) ++ ((48 + n % 10) ∷ [])
 unfolding decimal
 decimal-more n l h = rw (enough 18 (n / 10) (omega arith)) (longer 19 n h)
+
+-- how many digits a number has
+few : (k n : ℕ) → length (lastDigits k n) ≤ k
+unfolding lastDigits
+few zero n = omega arith
+few (suc k) n = go (few k (n / 10)) (ltb n 10)
+  where
+    go : length (lastDigits k (n / 10)) ≤ k → (b : Bool) → length (cond b ((48 + n) ∷ []) (lastDigits k (n / 10) ++ ((48 + n % 10) ∷ []))) ≤ suc k
+    go h true = omega arith
+    go h false = rw length-append (omega arith)
+
+pub digits-few : (n : ℕ) → length (decimal n) ≤ 20
+unfolding decimal
+digits-few n = few 20 n
+
+pub digits-one : (n : ℕ) → n < 10 → length (decimal n) ≡ 1
+digits-one n h = ap length (decimal-one n h)
+
+pub digits-more : (n : ℕ) → n < 2 ^ 64 → 10 ≤ n → length (decimal n) ≡ suc (length (decimal (n / 10)))
+digits-more n l h = ap length (decimal-more n l h) ∙ length-append (decimal (n / 10)) ((48 + n % 10) ∷ []) ∙ add-one (length (decimal (n / 10)))
+
+pub digits-two : (n : ℕ) → 10 ≤ n → n < 100 → length (decimal n) ≡ 2
+digits-two n h l = omega (arith, digits-more n (omega arith) h, digits-one (n / 10) (omega arith))
+
+pub digits-three : (n : ℕ) → 100 ≤ n → n < 1000 → length (decimal n) ≡ 3
+digits-three n h l = omega (arith, digits-more n (omega arith) (omega arith), digits-two (n / 10) (omega arith) (omega arith))
+
+pub digits-past-three : (n : ℕ) → n < 2 ^ 64 → 1000 ≤ n → length (decimal n) ≡ 3 + length (decimal (n / 1000))
+digits-past-three n l h =
+    let e : n / 10 / 10 / 10 ≡ n / 1000 = omega arith in
+    omega (
+      arith,
+      digits-more n l (omega arith),
+      digits-more (n / 10) (omega arith) (omega arith),
+      digits-more (n / 10 / 10) (omega arith) (omega arith),
+      ap (λ (m : ℕ). length (decimal m)) e,
+    )
 
 -- ---- signs
 
@@ -68,20 +104,8 @@ pub hexBytes-some : (s : List ℕ) → 0 < length s → hexBytes s ≡ hexByte (
 hexBytes-some [] h = absurd (not-suc-le-zero h)
 hexBytes-some (b ∷ s) h = refl
 
--- the digits of byte b are characters 2 b and 2 b + 1 of the table
-pub hexByte-pair : (b : ℕ) → hexByte b ≡ getD (hexByte (2 * b / 2)) (2 * b % 2) 0 ∷ getD (hexByte ((2 * b + 1) / 2)) ((2 * b + 1) % 2) 0 ∷ []
-unfolding hexByte
-hexByte-pair b =
-    let e : 2 * b % 2 ≡ 0 = omega arith in
-    let f : (2 * b + 1) % 2 ≡ 1 = omega arith in
-    let g : 2 * b / 2 ≡ b = omega arith in
-    let h : (2 * b + 1) / 2 ≡ b = omega arith in
-    rw (e, f, g, h)
-
--- the table's rule as a test of character x at place i, and the rule at each place from the test at all of them
-unfoldable pub entry-right : ℕ → ℕ → Bool
-entry-right i x = eqb x (getD (hexByte (i / 2)) (i % 2) 0)
-
-pub table-rule : (xs : List ℕ) → T (every entry-right 0 xs) → (i : ℕ) → i < length xs → getD xs i 0 ≡ getD (hexByte (i / 2)) (i % 2) 0
-unfolding entry-right
-table-rule xs t i h = eqb→eq (getD xs i 0) (getD (hexByte (i / 2)) (i % 2) 0) (at entry-right xs t i h)
+-- each byte has three characters
+pub next-length : (s : List ℕ) → length (flatMap nextHex s) ≡ length s + length s + length s
+unfolding flatMap hexByte
+next-length [] = refl
+next-length (b ∷ s) = omega (arith, next-length s)

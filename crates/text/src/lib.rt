@@ -1,12 +1,12 @@
 // Text put into a lent buffer. Each writer is lent the buffer and the place to write at; it writes as much of its text as there
 // is room for, and answers the place behind the whole text. So writers compose by handing the place on, and a writer that is lent
 // an empty part writes nothing and measures.
-ghost use Prim.Native.Nat.{_+_, _-_, _/_, _%_, _<_, min};
+ghost use Prim.Native.Nat.{_+_, _-_, _<_, min};
 ghost use mathlib.Core.List.{[], _∷_, flatMap};
 ghost use mathlib.Core.Path.{_≡_};
-ghost use lib.ListN.{getD, replicate};
+ghost use lib.ListN.{length, replicate};
 ghost use Rattle.text.specs.Put.{Put, place};
-ghost use Rattle.text.specs.Texts.{decimal, signedDecimal, hexByte, nextHex, hexBytes, padLeft, padRight};
+ghost use Rattle.text.specs.Texts.{decimal, signedDecimal, hexDigit, hexByte, nextHex, hexBytes, padLeft, padRight};
 
 // The place b behind a. It stops at 2^63, behind every slice, so that no text is too long to measure.
 pub fn plus(a: usize, b: usize) -> usize
@@ -28,6 +28,13 @@ pub fn least(a: usize, b: usize) -> usize
     if a < b { a } else { b }
 }
 
+// How many of n bytes from place at on lie within len.
+fn room(len: usize, at: usize, n: usize) -> usize
+    ensures { λ r. ⌜ r ≡ min n (len - at) ⌝ }
+{
+    if len <= at { 0 } else { least(n, len - at) }
+}
+
 pub fn put_byte(out: &mut [u8], at: usize, b: u8) -> usize
     ensures { λ r. ⌜ Put (now (out .entry)) at (b ∷ []) (now (out .exit)) r ⌝ }
 {
@@ -41,25 +48,25 @@ pub fn put_byte(out: &mut [u8], at: usize, b: u8) -> usize
 pub fn put_bytes(out: &mut [u8], at: usize, s: &[u8]) -> usize
     ensures { λ r. ⌜ Put (now (out .entry)) at (now (s .entry)) (now (out .exit)) r ⌝ }
 {
-    let mut p = plus(at, 0);
+    let n = room(out.len(), at, s.len());
     let mut i = 0;
-    while i < s.len() {
-        p = put_byte(out, p, s[i]);
+    while i < n {
+        out[at + i] = s[i];
         i += 1;
     }
-    p
+    plus(at, s.len())
 }
 
 pub fn put_spaces(out: &mut [u8], at: usize, n: usize) -> usize
     ensures { λ r. ⌜ Put (now (out .entry)) at (replicate n 32) (now (out .exit)) r ⌝ }
 {
-    let mut p = plus(at, 0);
+    let m = room(out.len(), at, n);
     let mut i = 0;
-    while i < n {
-        p = put_byte(out, p, b' ');
+    while i < m {
+        out[at + i] = b' ';
         i += 1;
     }
-    p
+    plus(at, n)
 }
 
 // The blanks that fill a text of w characters up to width.
@@ -77,9 +84,37 @@ pub fn put_decimal(out: &mut [u8], at: usize, n: u64) -> usize
     ensures { λ r. ⌜ Put (now (out .entry)) at (decimal n) (now (out .exit)) r ⌝ }
 {
     if n < 10 {
+        return put_byte(out, at, b'0' + n as u8);
+    }
+    if out.len() <= at {
+        return plus(at, digits(n));
+    }
+    put_digits(out, at, n)
+}
+
+// How many decimal digits n has.
+fn digits(n: u64) -> usize
+    ensures { λ r. ⌜ r ≡ length (decimal n) ⌝ }
+{
+    if n < 10 {
+        1
+    } else if n < 100 {
+        2
+    } else if n < 1000 {
+        3
+    } else {
+        3 + digits(n / 1000)
+    }
+}
+
+// The digits of n, the first ones first.
+fn put_digits(out: &mut [u8], at: usize, n: u64) -> usize
+    ensures { λ r. ⌜ Put (now (out .entry)) at (decimal n) (now (out .exit)) r ⌝ }
+{
+    if n < 10 {
         put_byte(out, at, b'0' + n as u8)
     } else {
-        let p = put_decimal(out, at, n / 10);
+        let p = put_digits(out, at, n / 10);
         put_byte(out, p, b'0' + (n % 10) as u8)
     }
 }
@@ -105,9 +140,8 @@ pub fn put_signed32(out: &mut [u8], at: usize, v: i32) -> usize
 pub fn put_hex_byte(out: &mut [u8], at: usize, b: u8) -> usize
     ensures { λ r. ⌜ Put (now (out .entry)) at (hexByte b) (now (out .exit)) r ⌝ }
 {
-    let i = b as usize;
-    let p = put_byte(out, at, hex_char(2 * i));
-    put_byte(out, p, hex_char(2 * i + 1))
+    let p = put_byte(out, at, hex_digit(b / 16));
+    put_byte(out, p, hex_digit(b % 16))
 }
 
 // Bytes in hexadecimal, a blank between two.
@@ -134,7 +168,7 @@ pub fn put_hex_padded(out: &mut [u8], at: usize, s: &[u8], width: u8) -> usize
 pub fn put_decimal_padded(out: &mut [u8], at: usize, n: u64, width: u8) -> usize
     ensures { λ r. ⌜ Put (now (out .entry)) at (padLeft width (decimal n)) (now (out .exit)) r ⌝ }
 {
-    let w = put_decimal(&mut out[0..0], 0, n);
+    let w = digits(n);
     let p = put_pad(out, at, w, width as usize);
     put_decimal(out, p, n)
 }
@@ -143,7 +177,10 @@ pub fn put_decimal_padded(out: &mut [u8], at: usize, n: u64, width: u8) -> usize
 fn put_hex_rest(out: &mut [u8], at: usize, s: &[u8]) -> usize
     ensures { λ r. ⌜ Put (now (out .entry)) at (flatMap nextHex (now (s .entry))) (now (out .exit)) r ⌝ }
 {
-    let mut p = plus(at, 0);
+    if out.len() <= at {
+        return plus(plus(plus(at, s.len()), s.len()), s.len());
+    }
+    let mut p = at;
     let mut i = 0;
     while i < s.len() {
         p = put_byte(out, p, b' ');
@@ -153,29 +190,10 @@ fn put_hex_rest(out: &mut [u8], at: usize, s: &[u8]) -> usize
     p
 }
 
-// The two digits of each byte, pair after pair.
-const HEX: [u8; 512] = *b"\
-    000102030405060708090a0b0c0d0e0f\
-    101112131415161718191a1b1c1d1e1f\
-    202122232425262728292a2b2c2d2e2f\
-    303132333435363738393a3b3c3d3e3f\
-    404142434445464748494a4b4c4d4e4f\
-    505152535455565758595a5b5c5d5e5f\
-    606162636465666768696a6b6c6d6e6f\
-    707172737475767778797a7b7c7d7e7f\
-    808182838485868788898a8b8c8d8e8f\
-    909192939495969798999a9b9c9d9e9f\
-    a0a1a2a3a4a5a6a7a8a9aaabacadaeaf\
-    b0b1b2b3b4b5b6b7b8b9babbbcbdbebf\
-    c0c1c2c3c4c5c6c7c8c9cacbcccdcecf\
-    d0d1d2d3d4d5d6d7d8d9dadbdcdddedf\
-    e0e1e2e3e4e5e6e7e8e9eaebecedeeef\
-    f0f1f2f3f4f5f6f7f8f9fafbfcfdfeff";
-
-// Character i of the table, a digit of byte i / 2.
-fn hex_char(i: usize) -> u8
-    requires { ⌜ i < 512 ⌝ }
-    ensures { λ r. ⌜ r ≡ getD (hexByte (i / 2)) (i % 2) 0 ⌝ }
+// A digit below 16.
+fn hex_digit(d: u8) -> u8
+    requires { ⌜ d < 16 ⌝ }
+    ensures { λ r. ⌜ r ≡ hexDigit d ⌝ }
 {
-    HEX[i]
+    if d < 10 { b'0' + d } else { 87 + d }
 }
