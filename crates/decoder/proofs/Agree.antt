@@ -80,13 +80,10 @@ module _ (code types : List ℕ) (scale : ℕ) (rfs : ℤ) where
   abbrev state : ℕ → ℕ → List Operand → Operands
   state at before os = record { outcome = Outcome.Done; at = at; count = length os; before = before; slots = recordsOf 8 os }
 
-  abbrev stopped : Refusal → ℕ → ℕ → List Operand → Operands
-  stopped r at before os = record { outcome = Outcome.Refused r; at = at; count = length os; before = before; slots = recordsOf 8 os }
-
-  run-stopped : (ts : List ℕ) (r : Refusal) (at before : ℕ) (os : List Operand) → runList ts (stopped r at before os) ≡ stopped r at before os
+  run-stopped : (ts : List ℕ) (r : Refusal) (t : ℕ) (s : Operands) → runList ts (afterStep (Short r) t s) ≡ afterStep (Short r) t s
   unfolding runList
-  run-stopped [] r at before os = refl
-  run-stopped (t ∷ ts) r at before os = run-stopped ts r at before os
+  run-stopped [] r t s = refl
+  run-stopped (u ∷ ts) r t s = run-stopped ts r t s
 
   module _ (start opcode : ℕ) where
     abbrev ofGot : List Operand → Got → Decoded
@@ -96,6 +93,11 @@ module _ (code types : List ℕ) (scale : ℕ) (rfs : ℤ) where
     of-add : (os : List Operand) (o : Operand) (g : Got) → ofGot (os ++ (o ∷ [])) g ≡ ofGot os (add o g)
     of-add os o (bad r) = refl
     of-add os o (good e more) = rw (append-assoc os (o ∷ []) more)
+
+    -- the first short operand is the answer
+    pub run-short : (opcodes : List ℕ) (n k : ℕ) (r : Refusal) (t : ℕ) (s : Operands)
+        → ofOps start opcode scale (runOps code opcodes types opcode scale rfs n k (afterStep (Short r) t s)) ≡ record { outcome = Outcome.Refused r; instr = blank }
+    run-short opcodes n k r t s = ap (ofOps start opcode scale) (run-list opcodes opcode n k (afterStep (Short r) t s) ∙ run-stopped (codesFrom opcodes opcode k n) r t s)
 
     -- one more operand
     read-state : (at before t next : ℕ) (os : List Operand) (o : Operand) → length os < 8 → afterStep (Read o next) t (state at before os) ≡ state next t (os ++ (o ∷ []))
@@ -137,9 +139,9 @@ module _ (code types : List ℕ) (scale : ℕ) (rfs : ℤ) where
             ≡ ofGot os (cond p (got false at ts) (cond q (cond r (cond u (add (interpret t (value at w) w (value (at + w) cw % 2 ^ 32) rfs) (got true (at + w + cw) ts)) (bad (refusalAt 15 (at + w)))) (add (interpret t (value at w) w 0 rfs) (got false (at + w) ts))) (bad (refusalAt 14 at))))
         go true q r u e f rest =
             rest at t os (omega arith) ∙ ap (λ (x : Bool). ofGot os (got x at ts)) (not-list t (eqb-true t 8 (and-left (eqb t 8) (isList before) e)))
-        go false false r u e f rest = ap (ofOps start opcode scale) (run-stopped ts (refusalAt 14 at) at t os)
+        go false false r u e f rest = ap (ofOps start opcode scale) (run-stopped ts (refusalAt 14 at) t (state at before os))
         go false true false u e f rest = rw (value-is at t) (on (interpret t (value at w) w 0 rfs) (at + w) false f rest)
-        go false true true false e f rest = ap (ofOps start opcode scale) (run-stopped ts (refusalAt 15 (at + w)) at t os)
+        go false true true false e f rest = ap (ofOps start opcode scale) (run-stopped ts (refusalAt 15 (at + w)) t (state at before os))
         go false true true true e f rest =
             rw (value-is at t, value-is (at + w) 8) (on (interpret t (value at w) w (value (at + w) cw % 2 ^ 32) rfs) (at + w + cw) true f rest)
 

@@ -1,9 +1,9 @@
 // One instruction at a place of the code.
 ghost use mathlib.Core.Path.{_≡_};
-ghost use Prim.Native.Nat.{_+_, _-_, _*_, _/_, _<_, _≤_, min};
-ghost use lib.ListN.{length, getD, set, replicate};
+ghost use Prim.Native.Nat.{_<_};
+ghost use lib.ListN.{length};
 ghost use Rattle.decoder.specs.Decode.{decodeAt};
-ghost use Rattle.decoder.specs.Instr.{blank, opAt, behind, headAt, startOps, afterStep, stepOps, operandsAt, ofOps, stepsAt};
+ghost use Rattle.decoder.specs.Instr.{blank, opAt, behind, headAt, operandsAt, ofOps, stepsAt};
 use operand::Operand;
 use operand::Step;
 use refusal::Refusal;
@@ -43,7 +43,7 @@ enum Head {
     Op { opcode: u8, scale: u8, at: usize },
 }
 
-// Operands as far as they are read: before is the type code of the last one.
+// Operands as far as they are read, for contracts: before is the type code of the last one.
 struct Operands {
     pub outcome: Outcome,
     pub at: usize,
@@ -141,98 +141,78 @@ fn head_at(code: &[u8], ops: usize, start: usize, wide: usize, extra: usize) -> 
     op_at(code, ops, start, 1, start)
 }
 
-// No operands yet, at a place.
-fn start_operands(at: usize) -> Operands
-    ensures { λ r. ⌜ r ≡ startOps at ⌝ }
+// The instruction with this opcode at a place: its operands begin at place at.
+fn decode_op(
+    code: &[u8],
+    opcodes: &[u8],
+    types: &[u8],
+    start: usize,
+    opcode: u8,
+    scale: u8,
+    reg_file_start: i32,
+    at: usize,
+) -> Decoded
+    ensures { λ r. ⌜ r ≡ ofOps start opcode scale (operandsAt (now (code .entry)) (now (opcodes .entry)) (now (types .entry)) opcode scale «reg_file_start» at) ⌝ }
+{
+    let all = tables::operand_count(opcodes, opcode);
+    let n = if all < 8 { all } else { 8 };
+    let none = OperandRecord {
+        operand: Operand::Nothing,
+    };
+    let mut slots = [none; 8];
+    let mut p = at;
+    let mut count: usize = 0;
+    let mut before: u8 = 0;
+    let mut k: u8 = 0;
+    while k < n {
+        let t = tables::type_code(opcodes, opcode, k);
+        match operand::operand_at(code, types, t, before, scale, p, reg_file_start) {
+            Step::Skip => {}
+            Step::Short(refusal) => return no_instr(Outcome::Refused(refusal), count),
+            Step::Read { operand, next } => {
+                slots[count] = OperandRecord { operand };
+                count += 1;
+                p = next;
+            }
+        }
+        before = t;
+        k += 1;
+    }
+    Decoded {
+        outcome: Outcome::Done,
+        instr: Instr {
+            offset: start,
+            opcode,
+            scale,
+            end: p,
+            count,
+            operands: slots,
+        },
+    }
+}
+
+// An outcome with no instruction. The store at a place that only the run knows keeps the array in one piece in memory: it is copied at once,
+// not field by field.
+fn no_instr(outcome: Outcome, k: usize) -> Decoded
+    requires { ⌜ k < 8 ⌝ }
+    ensures { λ r. ⌜ r ≡ record { outcome = outcome; instr = blank } ⌝ }
 {
     let none = OperandRecord {
         operand: Operand::Nothing,
     };
-    Operands {
-        outcome: Outcome::Done,
-        at,
-        count: 0,
-        before: 0,
-        slots: [none; 8],
-    }
-}
-
-// The operands after a step of type code t.
-fn after_step(step: Step, t: u8, s: Operands) -> Operands
-    requires { ⌜ s .count < 8 ⌝ }
-    ensures { λ r. ⌜ r ≡ afterStep step t s ⌝ }
-{
-    let mut slots = s.slots;
-    let n = s.count;
-    let at = s.at;
-    match step {
-        Step::Skip => Operands {
-            outcome: Outcome::Done,
-            at,
-            count: n,
-            before: t,
-            slots,
+    let mut slots = [none; 8];
+    slots[k] = none;
+    Decoded {
+        outcome,
+        instr: Instr {
+            offset: 0,
+            opcode: 0,
+            scale: 0,
+            end: 0,
+            count: 0,
+            operands: slots,
         },
-        Step::Short(refusal) => Operands {
-            outcome: Outcome::Refused(refusal),
-            at,
-            count: n,
-            before: t,
-            slots,
-        },
-        Step::Read { operand, next } => {
-            slots[n] = OperandRecord { operand };
-            let more = n + 1;
-            Operands {
-                outcome: Outcome::Done,
-                at: next,
-                count: more,
-                before: t,
-                slots,
-            }
-        }
     }
-}
-
-// The operands with the one of type code t read too; a refusal stays.
-fn next_operand(code: &[u8], types: &[u8], scale: u8, start: i32, t: u8, s: Operands) -> Operands
-    requires { ⌜ s .count < 8 ⌝ }
-    ensures { λ r. ⌜ r ≡ stepOps (now (code .entry)) (now (types .entry)) scale start t s ⌝ }
-{
-    let outcome = s.outcome;
-    match outcome {
-        Outcome::End => s,
-        Outcome::Refused(_) => s,
-        Outcome::Done => after_step(
-            operand::operand_at(code, types, t, s.before, scale, s.at, start),
-            t,
-            s,
-        ),
-    }
-}
-
-// The operands of an opcode from a place on.
-fn operands_at(
-    code: &[u8],
-    opcodes: &[u8],
-    types: &[u8],
-    opcode: u8,
-    scale: u8,
-    start: i32,
-    at: usize,
-) -> Operands
-    ensures { λ r. ⌜ r ≡ operandsAt (now (code .entry)) (now (opcodes .entry)) (now (types .entry)) opcode scale start at ⌝ }
-{
-    let count = tables::operand_count(opcodes, opcode);
-    let n = if count < 8 { count } else { 8 };
-    let mut s = start_operands(at);
-    let mut k: u8 = 0;
-    while k < n {
-        let t = tables::type_code(opcodes, opcode, k);
-        s = next_operand(code, types, scale, start, t, s);
-        k += 1;
-    }
-    s
 }
 
 // The instruction at a place, step by step.
@@ -248,48 +228,17 @@ fn decode_steps(
     ensures { λ r. ⌜ r ≡ stepsAt (now (code .entry)) (now (opcodes .entry)) (now (types .entry)) start «reg_file_start» wide extra ⌝ }
 {
     match head_at(code, opcodes.len() / 64, start, wide, extra) {
-        Head::End => Decoded {
-            outcome: Outcome::End,
-            instr: blank_instr(),
-        },
-        Head::Refused(refusal) => Decoded {
-            outcome: Outcome::Refused(refusal),
-            instr: blank_instr(),
-        },
-        Head::Op { opcode, scale, at } => {
-            let s = operands_at(code, opcodes, types, opcode, scale, reg_file_start, at);
-            answer(start, opcode, scale, s)
-        }
-    }
-}
-
-// The answer that operands give.
-fn answer(start: usize, opcode: u8, scale: u8, s: Operands) -> Decoded
-    ensures { λ r. ⌜ r ≡ ofOps start opcode scale s ⌝ }
-{
-    let outcome = s.outcome;
-    match outcome {
-        Outcome::Done => {
-            let operands = s.slots;
-            Decoded {
-                outcome: Outcome::Done,
-                instr: Instr {
-                    offset: start,
-                    opcode,
-                    scale,
-                    end: s.at,
-                    count: s.count,
-                    operands,
-                },
-            }
-        }
-        Outcome::Refused(refusal) => Decoded {
-            outcome: Outcome::Refused(refusal),
-            instr: blank_instr(),
-        },
-        Outcome::End => Decoded {
-            outcome: Outcome::End,
-            instr: blank_instr(),
-        },
+        Head::End => no_instr(Outcome::End, start % 8),
+        Head::Refused(refusal) => no_instr(Outcome::Refused(refusal), start % 8),
+        Head::Op { opcode, scale, at } => decode_op(
+            code,
+            opcodes,
+            types,
+            start,
+            opcode,
+            scale,
+            reg_file_start,
+            at,
+        ),
     }
 }
