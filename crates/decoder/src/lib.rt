@@ -191,7 +191,7 @@ fn decode_op(
     }
 }
 
-// An outcome with no instruction. The store at a place that only the run knows keeps the array in one piece in memory: it is copied at once,
+// An outcome with no instruction. The store at a place known only at run time keeps the array whole in memory, so that it is copied at once,
 // not field by field.
 fn no_instr(outcome: Outcome, k: usize) -> Decoded
     requires { ⌜ k < 8 ⌝ }
