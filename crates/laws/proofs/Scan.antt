@@ -65,6 +65,10 @@ module _ (a e x : ℕ) where
   unfolding within
   within-yes p q = rw (le-leb a x p, le-leb x e q)
 
+  pub within-from : a ≤ x → within a e x ≡ leb x e
+  unfolding within
+  within-from p = rw (le-leb a x p)
+
   pub within-below : x < a → within a e x ≡ false
   unfolding within
   within-below p = rw (lt-leb a x p)
@@ -88,6 +92,38 @@ first-is p i n k low high before here = go (under? f k) (under? k f)
     go (inl l) m = clash (first-holds p i n (omega arith)) (before f (first-within p i n .0) l)
     go (inr l) (inl m) = clash (here (omega (arith, first-within p i n .1))) (first-before p i n k low m)
     go (inr l) (inr m) = omega arith
+
+-- what is passed without a find may be left out: the search from b on finds the same
+pub first-past : (p : ℕ → Bool) (a b e : ℕ) → a ≤ b → b ≤ e → ((k : ℕ) → a ≤ k → k < b → p k ≡ false) → firstFrom p a (e - a) ≡ firstFrom p b (e - b)
+first-past p a b e low high none = first-is p a (e - a) f (omega (arith, first-within p b (e - b) .0)) (omega (arith, first-within p b (e - b) .1)) before here
+  where
+    f : ℕ
+    f = firstFrom p b (e - b)
+
+    before : (j : ℕ) → a ≤ j → j < f → p j ≡ false
+    before j l m = ⊎-elim (λ (h : j < b). none j l h) (λ (h : b ≤ j). first-before p b (e - b) j h m) (under? j b)
+
+    here : f < a + (e - a) → p f ≡ true
+    here l = first-holds p b (e - b) (omega arith)
+
+-- what is found before the end is found in more places too
+pub first-more : (p : ℕ → Bool) (i n m : ℕ) → n ≤ m → firstFrom p i n < i + n → firstFrom p i m ≡ firstFrom p i n
+first-more p i n m h l = first-is p i m (firstFrom p i n) (first-within p i n .0) (omega arith) (first-before p i n) (λ z. first-holds p i n l)
+
+-- a search d places further on, by a test that is shifted
+pub first-along : (p q : ℕ → Bool) (d i n : ℕ) → ((k : ℕ) → i ≤ k → p (d + k) ≡ q k) → firstFrom p (d + i) n ≡ d + firstFrom q i n
+first-along p q d i n same = first-is p (d + i) n (d + f) (omega (arith, first-within q i n .0)) (omega (arith, first-within q i n .1)) before here
+  where
+    f : ℕ
+    f = firstFrom q i n
+
+    before : (j : ℕ) → d + i ≤ j → j < d + f → p j ≡ false
+    before j l m =
+        let e : d + (j - d) ≡ j = omega arith in
+        ap p (sym e) ∙ same (j - d) (omega arith) ∙ first-before q i n (j - d) (omega arith) (omega arith)
+
+    here : d + f < d + i + n → p (d + f) ≡ true
+    here l = same f (first-within q i n .0) ∙ first-holds q i n (omega arith)
 
 -- the first place of either test: the search for the second ends where the first was found
 pub first-either : (p q : ℕ → Bool) (n : ℕ) → firstFrom (λ k. p k || q k) 0 n ≡ firstFrom q 0 (firstFrom p 0 n)
