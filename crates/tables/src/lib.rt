@@ -288,13 +288,18 @@ fn name_ok(s: &[u8], at: usize, w: u8) -> bool
     zeros_end(s, e, to) == to
 }
 
-// A letter, a digit or an underscore.
+// A letter, a digit or an underscore; small letters, which are most, by the first test.
 fn is_name(b: u8) -> bool
     ensures { λ r. ⌜ r ≡ isName b ⌝ }
 {
-    match b {
-        48..=57 | 65..=90 | 95 | 97..=122 => true,
-        _ => false,
+    if 97 <= b {
+        b <= 122
+    } else if 65 <= b {
+        if b == 95 { true } else { b <= 90 }
+    } else if 48 <= b {
+        b <= 57
+    } else {
+        false
     }
 }
 
