@@ -1,7 +1,7 @@
 -- Laws of the tables' definitions, over plain variables. Assumes nothing.
 use Prim.Native.Nat.{ℕ, _+_, _-_, _*_, _/_, _%_, _<_, _≤_, min}
-use mathlib.Core.Path.{_≡_}
-use mathlib.Core.Bool.{false}
+use mathlib.Core.Path.{_≡_, ap}
+use mathlib.Core.Bool.{false, not}
 use mathlib.Core.List.{List, []}
 use native.Mathlib.Omega.{arith}
 use native.Mathlib.Nat.{mul-le-mul-right, suc-mul, div-add-mod'}
@@ -9,11 +9,13 @@ use borrow.Author.Tests.{lt-ltb, le-ltb, le-leb, lt-leb, eq-eqb, ne-eqb}
 use lib.Dec.{eqb, leb}
 use lib.ListN.{length, getD, take, drop, replicate, drop-of-length-le, List·getD-eq-default}
 use Rattle.laws.specs.Scan.{firstFrom, within}
-use Rattle.laws.proofs.Scan.{within-below, first-within, first-before}
+use Rattle.laws.proofs.Scan.{within-below, first-within, first-before, first-past}
 use Rattle.laws.proofs.Tests.{clash, under?}
 use mathlib.Core.Logic.{⊎-elim}
 use lib.Seq.{take-nil}
 use Rattle.laws.proofs.Runs.{run-at}
+use Rattle.words.specs.Le.{leAt}
+use Rattle.words.proofs.Le.{leAt-none}
 use Rattle.tables.specs.Records.{isPrefix, prefixOp, noType, opcodeOk}
 use Rattle.tables.specs.Names.{isZero, notZero, nameAt}
 use Rattle.tables.specs.Layout.{Range, ranges, rangeOf, any}
@@ -65,6 +67,16 @@ module _ (s : List ℕ) (at w : ℕ) where
       (λ (l : length s < firstFrom (isZero s) at w).
       clash (eq-eqb (getD s (length s) 0) 0 (List·getD-eq-default s 0 (omega arith))) (first-before (isZero s) at w (length s) (omega arith) l))
       (λ l. l) (under? (length s) (firstFrom (isZero s) at w))
+
+-- ---- eight zero bytes are passed at once
+pub zero-word : (s : List ℕ) (i to : ℕ) → 8 ≤ to - i → leAt s i 8 ≡ 0 → firstFrom (notZero s) i (to - i) ≡ firstFrom (notZero s) (i + 8) (to - (i + 8))
+zero-word s i to l z = first-past (notZero s) i (i + 8) to (omega arith) (omega arith) none
+  where
+    none : (k : ℕ) → i ≤ k → k < i + 8 → notZero s k ≡ false
+    none k low high =
+        let e : i + (k - i) ≡ k = omega arith in
+        let b : getD s k 0 ≡ 0 = rw e at (leAt-none s i 8 z (k - i) (omega arith)) in
+        ap not (eq-eqb _ _ b)
 
 -- ---- the cases of an opcode record
 module _ (s : List ℕ) (at known : ℕ) where

@@ -321,6 +321,31 @@ fn name_end(s: &[u8], from: usize, to: usize) -> usize
 fn zeros_end(s: &[u8], from: usize, to: usize) -> usize
     ensures { λ r. ⌜ r ≡ firstFrom (notZero (now (s .entry))) from (to - from) ⌝ }
 {
+    let i = zero_words(s, from, to);
+    first_set(s, i, to)
+}
+
+// The place behind the words of eight zero bytes that lie from from on, below to: a search may start there.
+fn zero_words(s: &[u8], from: usize, to: usize) -> usize
+    ensures { λ r. ⌜ firstFrom (notZero (now (s .entry))) from (to - from) ≡ firstFrom (notZero (now (s .entry))) r (to - r) ⌝ }
+{
+    if to <= from {
+        return from;
+    }
+    let mut i = from;
+    while 8 <= to - i {
+        if words::u64_at(s, i) != 0 {
+            return i;
+        }
+        i += 8;
+    }
+    i
+}
+
+// What zeros_end finds, byte by byte.
+fn first_set(s: &[u8], from: usize, to: usize) -> usize
+    ensures { λ r. ⌜ r ≡ firstFrom (notZero (now (s .entry))) from (to - from) ⌝ }
+{
     let mut i = from;
     while i < to {
         if words::byte_at(s, i) != 0 {

@@ -7,8 +7,8 @@ use borrow.Author.Needs.{needs}
 use Rattle.laws.specs.Scan.{firstFrom}
 use Rattle.tables.specs.Names.{notZero}
 use Rattle.laws.proofs.Scan.{first-here, first-next, first-end}
-use Rattle.tables.proofs.zeros_end.Statement.{statement}
-use Rattle.tables.proofs.zeros_end.Tie as tie
+use Rattle.tables.proofs.first_set.Statement.{statement}
+use Rattle.tables.proofs.first_set.Tie as tie
 
 abbrev Inv-loop : tie.InvT-loop
 Inv-loop s from to i₀ i = firstFrom (notZero s) from (to - from) ≡ firstFrom (notZero s) i (to - i)
@@ -45,8 +45,8 @@ loop-again c =
 returns-2 : tie.Need-returns-2 Inv-loop μ-loop
 returns-2 c = sym (c .before .loop .inv ∙ first-end _ _ _ (c .loop-test .left))
 
-pub zeros-end-spec : {M : Type 1} → statement M
-zeros-end-spec =
+pub first-set-spec : {M : Type 1} → statement M
+first-set-spec =
     tie.close
     (tie.spec
     Inv-loop
