@@ -9,15 +9,15 @@ use borrow.Author.Tests.{lt-ltb, le-ltb, le-leb, lt-leb, eq-eqb, ne-eqb}
 use lib.Dec.{eqb, leb}
 use lib.ListN.{length, getD, take, drop, replicate, drop-of-length-le, List·getD-eq-default}
 use Rattle.laws.specs.Scan.{firstFrom, within}
-use Rattle.laws.proofs.Scan.{within-below, first-within, first-before, first-past}
-use Rattle.laws.proofs.Tests.{clash, under?}
+use Rattle.laws.proofs.Scan.{within-below, first-within, first-before, first-past, first-more, first-along}
+use Rattle.laws.proofs.Tests.{clash, under?, eqb-along}
 use mathlib.Core.Logic.{⊎-elim}
 use lib.Seq.{take-nil}
 use Rattle.laws.proofs.Runs.{run-at}
 use Rattle.words.specs.Le.{leAt}
 use Rattle.words.proofs.Le.{leAt-none}
 use Rattle.tables.specs.Records.{isPrefix, prefixOp, noType, opcodeOk}
-use Rattle.tables.specs.Names.{isZero, notZero, nameAt}
+use Rattle.tables.specs.Names.{isZero, notZero, nameAt, differs, isNamed}
 use Rattle.tables.specs.Layout.{Range, ranges, rangeOf, any}
 use Rattle.tables.specs.Check.{wholeRecords}
 
@@ -77,6 +77,33 @@ zero-word s i to l z = first-past (notZero s) i (i + 8) to (omega arith) (omega 
         let e : i + (k - i) ≡ k = omega arith in
         let b : getD s k 0 ≡ 0 = rw e at (leAt-none s i 8 z (k - i) (omega arith)) in
         ap not (eq-eqb _ _ b)
+
+-- ---- a field holds a name of n bytes exactly when these agree and zeros follow
+module _ (s : List ℕ) (at w n : ℕ) (name : List ℕ) (room : n ≤ w) where
+  pub named-not : (firstFrom (differs s at name) 0 n ≡ n → ⊥) → false ≡ isNamed s at w name
+  unfolding isNamed
+  named-not h =
+      let high = first-within (differs s at name) 0 n .1 in
+      let l : firstFrom (differs s at name) 0 n < n = omega arith in
+      rw (first-more (differs s at name) 0 n w room (omega arith), ne-eqb (firstFrom (differs s at name) 0 n) w (λ e. omega arith))
+
+  pub named-zeros : length name ≤ n → firstFrom (differs s at name) 0 n ≡ n → eqb (firstFrom (notZero s) (at + n) (at + w - (at + n))) (at + w) ≡ isNamed s at w name
+  unfolding isNamed
+  named-zeros short agree = rw (left, along, ← skip) (eqb-along at (firstFrom (differs s at name) 0 w) w)
+    where
+      left : at + w - (at + n) ≡ w - n
+      left = omega arith
+
+      skip : firstFrom (differs s at name) 0 w ≡ firstFrom (differs s at name) n (w - n)
+      skip =
+          let z : w - 0 ≡ w = omega arith in
+          rw z at (first-past (differs s at name) 0 n w (omega arith) room (λ k low high. first-before (differs s at name) 0 n k low (omega arith)))
+
+      same : (k : ℕ) → n ≤ k → notZero s (at + k) ≡ differs s at name k
+      same k l = let past : length name ≤ k = omega arith in rw (List·getD-eq-default name 0 past)
+
+      along : firstFrom (notZero s) (at + n) (w - n) ≡ at + firstFrom (differs s at name) n (w - n)
+      along = first-along (notZero s) (differs s at name) at n (w - n) same
 
 -- ---- the cases of an opcode record
 module _ (s : List ℕ) (at known : ℕ) where

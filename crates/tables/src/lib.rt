@@ -3,7 +3,7 @@
 use refusal::Check;
 ghost use mathlib.Core.Path.{_≡_};
 ghost use Prim.Native.Nat.{_+_, _-_, _*_, _/_, _<_, _≤_, min};
-ghost use mathlib.Core.Bool.{not, _||_};
+ghost use mathlib.Core.Bool.{not, _&&_, _||_};
 ghost use lib.Dec.{eqb, leb};
 ghost use lib.ListN.{length, getD};
 ghost use Rattle.laws.specs.Scan.{firstFrom};
@@ -128,7 +128,11 @@ pub fn prefix_ops(opcodes: &[u8]) -> Prefixes
 pub fn name_is(s: &[u8], at: usize, w: u8, name: &[u8]) -> bool
     ensures { λ r. ⌜ r ≡ isNamed (now (s .entry)) at w (now (name .entry)) ⌝ }
 {
-    name_differs(s, at, w, name) == w
+    if field_holds(name.len(), w, at, s.len()) {
+        name_then_zeros(s, at, w, name)
+    } else {
+        name_differs(s, at, w, name) == w
+    }
 }
 
 // The name in the field of w bytes at place at.
@@ -354,6 +358,33 @@ fn first_set(s: &[u8], from: usize, to: usize) -> usize
         i += 1;
     }
     i
+}
+
+// Whether a field of w bytes at place at lies within len bytes and has room for a name of n.
+fn field_holds(n: usize, w: u8, at: usize, len: usize) -> bool
+    ensures { λ r. ⌜ r ≡ (leb n w && leb (at + w) len) ⌝ }
+{
+    if (w as usize) < n {
+        return false;
+    }
+    if len < at {
+        return false;
+    }
+    (w as usize) <= len - at
+}
+
+// Whether such a field holds this name: the name's own bytes, then zeros.
+fn name_then_zeros(s: &[u8], at: usize, w: u8, name: &[u8]) -> bool
+    requires { ⌜ (length (now name) ≤ w) × (at + w ≤ length (now s)) ⌝ }
+    ensures { λ r. ⌜ r ≡ isNamed (now (s .entry)) at w (now (name .entry)) ⌝ }
+{
+    let n = name.len() as u8;
+    if name_differs(s, at, n, name) != n {
+        return false;
+    }
+    let from = at + n as usize;
+    let to = at + w as usize;
+    zeros_end(s, from, to) == to
 }
 
 // The first byte of the field at place at that is not the name's; w where there is none.
