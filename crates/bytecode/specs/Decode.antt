@@ -1,7 +1,6 @@
 -- Decoding one instruction, as a call of 01: the checks for what it is lent, in 01's order, then the instruction at the place.
 use Prim.Native.Nat.{ℕ}
 use mathlib.Core.List.{List, []}
-use mathlib.Core.Bool.{Bool, cond}
 use lib.Dec.{leb}
 use lib.ListN.{length}
 use Rattle.refusal.specs.declared.Check.{Check}

@@ -1,7 +1,7 @@
 -- Operands and names as texts: the Rust's `reg_name`, `render_operand` and instruction name, in 01's words "written as `render_operand` does".
 use Prim.Native.Nat.{ℕ}
-use mathlib.Core.List.{List, [], _∷_, _++_}
-use mathlib.Core.Bool.{Bool, cond}
+use mathlib.Core.List.{List, [], _++_}
+use mathlib.Core.Bool.{cond}
 use lib.Dec.{eqb}
 use lib.IntN.{ℤ, pos, _-ℤ_}
 use Rattle.laws.specs.Ascii.{ascii}

@@ -5,14 +5,12 @@ use mathlib.Core.Bool.{false}
 use lib.IntN.{pos}
 use Rattle.laws.specs.Ascii.{ascii}
 use Rattle.refusal.specs.Check.{refusalAt}
-use Rattle.tables.specs.declared.Frame.{Frame}
 use Rattle.tables.specs.Layout.{frameOf}
 use Rattle.decoder.specs.declared.Outcome.{Outcome}
 use Rattle.decoder.specs.declared.Instr.{Instr}
 use Rattle.decoder.specs.Listed.{listed}
 use Rattle.flow.specs.Flow.{flowOf}
-use Rattle.bytecode.specs.Texts.{NameFiles, instrName}
-use Rattle.serializer.specs.declared.Elem.{Elem}
+use Rattle.bytecode.specs.Texts.{instrName}
 use Rattle.serializer.specs.declared.Elem.the-variants as elem
 use Rattle.targets.specs.Targets.{here, jumpTarget, jumpTable}
 use Rattle.lines.specs.Line.{View, operandsText, targetText, tableText}

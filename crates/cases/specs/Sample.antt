@@ -1,7 +1,7 @@
 -- 01's sample table, under its real names, as the record files.
-use Prim.Native.Nat.{ℕ, zero, suc, _+_, _-_, _*_, _/_, _%_}
+use Prim.Native.Nat.{ℕ, _-_, _/_, _%_}
 use Prim.Native.String.{String}
-use mathlib.Core.List.{List, [], _∷_, _++_, map}
+use mathlib.Core.List.{List, [], _∷_, _++_}
 use lib.ListN.{length, take, replicate}
 use Rattle.laws.specs.Ascii.{ascii}
 

@@ -1,7 +1,7 @@
 -- The listing of a function, as one text, and the call that writes it.
 use Prim.Native.Nat.{ℕ}
-use mathlib.Core.List.{List, [], _∷_, _++_}
-use mathlib.Core.Bool.{Bool, true, false, cond}
+use mathlib.Core.List.{List, _++_}
+use mathlib.Core.Bool.{cond}
 use lib.Dec.{leb}
 use lib.ListN.{length, take, drop}
 use Rattle.laws.specs.Ascii.{ascii}
@@ -10,7 +10,6 @@ use Rattle.refusal.specs.declared.Check.the-variants.{Ok, Refused}
 use Rattle.refusal.specs.Check.{refusalAt, orElse}
 use Rattle.text.specs.Texts.{decimal, signedDecimal}
 use Rattle.store.specs.declared.Object.{Object}
-use Rattle.store.specs.declared.SlotValue.{SlotValue}
 use Rattle.store.specs.declared.SlotValue.the-variants as value
 use Rattle.store.specs.Records.{objectOf}
 use Rattle.store.specs.Check.{checkStore, checkCodeObject}
@@ -32,8 +31,6 @@ use Rattle.targets.specs.Targets.{poolElem, poolSearched, found}
 use Rattle.lines.specs.Line.{View}
 use mathlib.Core.Path.{_≡_}
 use Rattle.text.specs.Put.{Put}
-use Rattle.bytecode.specs.Texts.{NameFiles}
-use Rattle.tables.specs.declared.Frame.{Frame}
 use Rattle.disasm.specs.declared.Pass.{Pass}
 use Rattle.disasm.specs.Lines.{linesText, codeCheck, listingCheck}
 use Rattle.disasm.specs.declared.Listed.{Listed}

@@ -1,13 +1,13 @@
 -- Two graphs with the same starts, and from each start the same steps in whatever order and number: what is right of one is right of the other.
 -- Assumes nothing.
-use Prim.Native.Nat.{ℕ, _<_}
+use Prim.Native.Nat.{ℕ}
 use mathlib.Core.Path.{_≡_, sym, ap, _∙_}
 use mathlib.Core.Bool.{true, not}
 use mathlib.Core.List.{List, List·Memᴰ as Among}
-use mathlib.Core.Logic.{inl, inr, _⊎_}
+use mathlib.Core.Logic.{inl, inr}
 use lib.ListN.{getD}
 use Rattle.graph.specs.Lists.{elem}
-use Rattle.graph.specs.Graph.{Graph, Good, Step, isStart, stepLeaves, Succ, Exits, Reach, Leaving, Finding, Claim}
+use Rattle.graph.specs.Graph.{Graph, Good, Step, isStart, stepLeaves, Reach, Leaving, Finding, Claim}
 use Rattle.graph.specs.Graph.Step.{To, NoTarget}
 use Rattle.graph.specs.Graph.Reach.{here, next}
 use Rattle.graph.specs.Graph.Leaving.{leave}

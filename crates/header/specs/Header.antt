@@ -2,7 +2,7 @@
 -- the payload the len bytes from byte off of the object on are (raw_at), and `rt off` where byte off of the capture is at run time
 -- (bca_rt_off).
 use Prim.Native.Nat.{ℕ, _/_, _%_, _^_}
-use mathlib.Core.Bool.{Bool, true, false, cond}
+use mathlib.Core.Bool.{Bool, false, cond}
 use mathlib.Core.List.{List}
 use lib.Dec.{leb}
 use lib.IntN.{ℤ, pos, negsuc, natAbs}

@@ -13,7 +13,6 @@ use Rattle.serializer.specs.Slots.{slotSearched}
 use Rattle.tables.specs.declared.Layout.{Layout}
 use Rattle.tables.specs.Layout.{signedValue, layoutOf}
 use Rattle.tables.specs.Check.{checkTable}
-use Rattle.decoder.specs.declared.Instr.{Instr}
 use Rattle.decoder.specs.declared.Outcome.{Outcome}
 use Rattle.decoder.specs.declared.Decoded.{Decoded}
 use Rattle.decoder.specs.Listed.{decodes}

@@ -1,7 +1,7 @@
 -- The instruction line, as the Rust's `render_sfi` writes it: "{:>10} @ {:>4} : {:<18} {}{}{}{}" with offset, bytes, name, operands, target
 -- and entries. 01: "An instruction line holds offset, bytes (padded to 18), name, operands, target, entries".
 use Prim.Native.Nat.{ℕ, zero, suc, _+_, _-_, min}
-use mathlib.Core.List.{List, [], _∷_, _++_}
+use mathlib.Core.List.{List, [], _++_}
 use mathlib.Core.Bool.{Bool, true, false, cond}
 use lib.IntN.{ℤ}
 use lib.ListN.{take, drop, replicate}

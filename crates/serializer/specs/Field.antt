@@ -1,9 +1,8 @@
 -- Fields in raw runs. The Rust: raw_at.
 use Prim.Native.Nat.{ℕ, _+_, _-_, _*_, _/_}
 use mathlib.Core.Bool.{Bool, cond, _&&_}
-use mathlib.Core.List.{List, []}
+use mathlib.Core.List.{List}
 use lib.Dec.{ltb, leb}
-use lib.ListN.{take, drop}
 use Rattle.store.specs.declared.Run.{Run}
 use Rattle.store.specs.declared.SlotValue.{SlotValue}
 use Rattle.store.specs.declared.SlotValue.the-variants as value

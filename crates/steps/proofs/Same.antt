@@ -1,5 +1,5 @@
 -- From each start the steps that the code goes through are those of the walks, and the graph is lawful. Assumes nothing.
-use Prim.Native.Nat.{ℕ, zero, suc, _+_, _-_, _<_, _≤_, _^_}
+use Prim.Native.Nat.{ℕ, zero, suc, _+_, _<_, _≤_, _^_}
 use mathlib.Core.Path.{_≡_, refl, sym, ap, subst, _∙_}
 use mathlib.Core.Bool.{Bool, true, false, cond, _&&_}
 use mathlib.Core.List.{List, [], _∷_, _++_, map, List·Memᴰ as Among, List·Memᴰ·head, List·Memᴰ·tail}
@@ -11,14 +11,14 @@ use lib.ListN.{length}
 use lib.IntN.{ℤ, pos, negsuc}
 use Rattle.laws.proofs.Tests.{clash, or-either, by-test}
 use Rattle.graph.specs.Lists.{elem}
-use Rattle.graph.specs.Graph.{Graph, Step, Good, Rising, isStart}
+use Rattle.graph.specs.Graph.{Step, Good, Rising, isStart}
 use Rattle.graph.specs.Graph.Step.{To}
 use Rattle.graph.proofs.Steps.{Lawful}
 use Rattle.graph.proofs.Same.{Less}
 use Rattle.decoder.specs.declared.Instr.{Instr}
 use Rattle.decoder.specs.declared.Outcome.{Outcome}
 use Rattle.decoder.specs.declared.Decoded.{Decoded}
-use Rattle.decoder.specs.Listed.{Listing, listOn, listFrom, decodes}
+use Rattle.decoder.specs.Listed.{listOn, listFrom, decodes}
 use Rattle.decoder.proofs.Tiles.{Tiles, decode-says, list-tiles}
 use Rattle.tables.specs.Records.{prefixOp}
 use Rattle.flow.specs.Flow.{flowOf}
@@ -27,7 +27,6 @@ use Rattle.flow.specs.declared.Kind.{Kind}
 use Rattle.flow.specs.declared.Kind.the-variants.{On, Ends, Jumps, Branches, JumpsBack, Switch}
 use Rattle.serializer.specs.declared.Elem.{Elem}
 use Rattle.targets.specs.Targets.{here, jumpTarget, jumpTable, entryAt, isSwitch, sizedBy, tableBy}
-use Rattle.targets.specs.declared.Target.{Target}
 use Rattle.targets.specs.declared.Entries.{Entries}
 use Rattle.targets.specs.declared.Entry.{Entry}
 use Rattle.targets.specs.declared.Entry.the-variants as entry

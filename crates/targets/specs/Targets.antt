@@ -10,14 +10,12 @@ use Rattle.words.specs.Signed.{modulo, wrap32}
 use Rattle.operand.specs.declared.Operand.{Operand}
 use Rattle.operand.specs.declared.Operand.the-variants.{Nothing, Reg, RegList, Imm, Idx, Flag8, Flag16, RuntimeId, IntrinsicId, Raw}
 use Rattle.decoder.specs.declared.Instr.{Instr}
-use Rattle.decoder.specs.declared.OperandRecord.{OperandRecord}
 use Rattle.flow.specs.declared.Kind.{Kind}
 use Rattle.flow.specs.declared.Kind.the-variants.{On, Ends, Jumps, Branches, JumpsBack, Switch}
 use Rattle.flow.specs.declared.Flow.{Flow}
 use Rattle.serializer.specs.declared.Elem.{Elem}
 use Rattle.serializer.specs.declared.Elem.the-variants as elem
 use Rattle.serializer.specs.Element.{elemAt, elemSearched}
-use Rattle.targets.specs.declared.PoolSlots.{PoolSlots}
 use Rattle.targets.specs.declared.Pool.{Pool}
 use Rattle.targets.specs.declared.Pool.the-variants as pool
 use Rattle.targets.specs.declared.Index.{Index}

@@ -76,17 +76,23 @@ pub fn jump_target(
 ) -> Target
     ensures { λ r. ⌜ r ≡ jumpTarget (poolSearched (now (slots .entry)) (now (payload .entry)) ts pool) flow instr ⌝ }
 {
-    let at = here(instr);
-    let op = operand_of(instr, flow.first);
-    let from_pool = flow.pool;
     let kind = flow.kind;
     match kind {
         Kind::On => Target::Nothing,
         Kind::Ends => Target::Nothing,
         Kind::Switch => Target::Nothing,
-        Kind::Jumps => target_from(at, distance_of(slots, payload, ts, pool, from_pool, op)),
-        Kind::Branches => target_from(at, distance_of(slots, payload, ts, pool, from_pool, op)),
-        Kind::JumpsBack => target_back(at, distance_of(slots, payload, ts, pool, from_pool, op)),
+        Kind::Jumps => target_from(
+            here(instr),
+            jump_distance(slots, payload, ts, pool, flow, instr),
+        ),
+        Kind::Branches => target_from(
+            here(instr),
+            jump_distance(slots, payload, ts, pool, flow, instr),
+        ),
+        Kind::JumpsBack => target_back(
+            here(instr),
+            jump_distance(slots, payload, ts, pool, flow, instr),
+        ),
     }
 }
 
@@ -189,7 +195,22 @@ fn number_of(op: Operand) -> Number
     }
 }
 
-// The distance of a jump: its operand, or the pool element that the operand names.
+// The distance of a jump, by the first operand that it uses.
+fn jump_distance(
+    slots: &[u8],
+    payload: &[u8],
+    ts: u8,
+    pool: Pool,
+    flow: Flow,
+    instr: Instr,
+) -> Number
+    ensures { λ r. ⌜ r ≡ distanceBy (poolSearched (now (slots .entry)) (now (payload .entry)) ts pool) (flow .pool) (operandOf instr (flow .first)) ⌝ }
+{
+    let op = operand_of(instr, flow.first);
+    distance_of(slots, payload, ts, pool, flow.pool, op)
+}
+
+// The distance: the operand, or the pool element that the operand names.
 fn distance_of(
     slots: &[u8],
     payload: &[u8],

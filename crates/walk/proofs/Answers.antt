@@ -2,21 +2,21 @@
 use Prim.Native.Nat.{ℕ, zero, suc, _<_, _≤_}
 use mathlib.Core.Path.{_≡_, refl, sym, ap, subst, _∙_}
 use mathlib.Core.Bool.{Bool, true, false}
-use mathlib.Core.List.{List, [], _∷_, _++_, append-nil}
+use mathlib.Core.List.{List, [], _++_, append-nil}
 use native.Mathlib.Omega.{arith}
-use borrow.Author.Tests.{lt-ltb, le-ltb, le-leb, lt-leb, leb-true, ltb-true}
-use lib.Dec.{leb, ltb}
+use borrow.Author.Tests.{lt-ltb, le-ltb, le-leb, lt-leb, ltb-true}
+use lib.Dec.{ltb}
 use lib.ListN.{length, drop, drop-of-length-le}
 use Rattle.refusal.specs.declared.Refusal.{Refusal}
 use Rattle.refusal.specs.declared.Check.{Check}
 use Rattle.refusal.specs.declared.Check.the-variants.{Ok, Refused}
-use Rattle.refusal.specs.Check.{refusalAt, orElse, unlessGood}
+use Rattle.refusal.specs.Check.{refusalAt, unlessGood}
 use Rattle.decoder.specs.declared.Outcome.{Outcome}
 use Rattle.decoder.specs.declared.Decoded.{Decoded}
-use Rattle.decoder.specs.Listed.{Listing, listOn, listFrom, decodes}
-use Rattle.disasm.specs.Lines.{codeCheck, switchCheck, listingCheck}
+use Rattle.decoder.specs.Listed.{listOn, listFrom, decodes}
+use Rattle.disasm.specs.Lines.{codeCheck, listingCheck}
 use Rattle.disasm.proofs.Searched.{or-left, or-right}
-use Rattle.graph.specs.Graph.{Good, Finding, Claim, finding, markList}
+use Rattle.graph.specs.Graph.{Finding, Claim, finding, markList}
 use Rattle.graph.specs.Graph.Finding.{closed, leaves}
 use Rattle.graph.specs.Right.{Answer}
 use Rattle.graph.proofs.Findings.{finding-meets}

@@ -1,7 +1,7 @@
 -- Where the store's checks found nothing, the walks by searches are the walks of the definition. Assumes nothing.
 use Prim.Native.Nat.{ℕ, _≤_}
-use mathlib.Core.Path.{_≡_, refl, sym, ap, subst, _∙_}
-use mathlib.Core.Bool.{Bool, true, false}
+use mathlib.Core.Path.{_≡_, sym, ap, subst, _∙_}
+use mathlib.Core.Bool.{true}
 use mathlib.Core.List.{List}
 use native.Mathlib.Omega.{arith}
 use borrow.Author.Tests.{leb-true}
@@ -9,9 +9,8 @@ use lib.Dec.{leb}
 use lib.IntN.{ℤ, pos, negsuc, natAbs}
 use lib.ListN.{length, take, drop, length-take}
 use Rattle.laws.proofs.Tests.{by-test}
-use Rattle.refusal.specs.declared.Refusal.{Refusal}
 use Rattle.refusal.specs.declared.Check.{Check}
-use Rattle.refusal.specs.declared.Check.the-variants.{Ok, Refused}
+use Rattle.refusal.specs.declared.Check.the-variants.{Ok}
 use Rattle.refusal.specs.Check.{orElse}
 use Rattle.store.specs.declared.Object.{Object}
 use Rattle.store.specs.Records.{objectOf}
@@ -28,17 +27,16 @@ use Rattle.tables.specs.Check.{checkTable}
 use Rattle.header.specs.declared.Header.{Header}
 use Rattle.header.specs.declared.HeaderAt.{HeaderAt}
 use Rattle.header.specs.declared.HeaderAt.the-variants as header-at
-use Rattle.header.specs.Header.{lengthBy, lengthOk, codeAt, headerWith, headerBy, headerOf, headerSearched}
+use Rattle.header.specs.Header.{lengthBy, lengthOk, codeAt, headerWith, headerBy, headerSearched}
 use Rattle.header.proofs.Searched.{header-searched}
 use Rattle.targets.specs.declared.Pool.{Pool}
-use Rattle.targets.specs.Targets.{poolElem, poolSearched, found}
+use Rattle.targets.specs.Targets.{poolSearched, found}
 use Rattle.disasm.specs.Listing.{Files, poolBy, poolOf, poolFound, checkFiles}
 use Rattle.disasm.proofs.Searched.{or-left, or-right, ordered, pool-elems}
 use Rattle.jumps.specs.declared.Owner.{Owner}
 use Rattle.bytecode.specs.Decode.{checkCode}
 use Rattle.jumps.specs.Jumps.{checkOwner, checkLent, ownerPool, ownerFound}
 use Rattle.jumps.proofs.Laws.{lent-pool, lent-elems}
-use Rattle.steps.specs.Steps.{Source}
 use Rattle.walk.specs.declared.Walked.{Walked}
 use Rattle.walk.specs.Walk.{unless, walkSource, codeOf, headerCheck, headerAt, objectSource, walkCall, lentSource, walkLent}
 use Rattle.walk.specs.Search.{sourceBy, headerFound, walkSearched}

@@ -1,8 +1,8 @@
 -- The pass that marks the starts: what holds at each instruction, and what its end says. Assumes nothing.
-use Prim.Native.Nat.{ℕ, zero, suc, _+_, _-_, _<_, _≤_}
+use Prim.Native.Nat.{ℕ, suc, _-_, _<_, _≤_}
 use mathlib.Core.Path.{_≡_, refl, sym, ap, subst, _∙_}
 use mathlib.Core.Bool.{Bool, true, false, _||_}
-use mathlib.Core.List.{List, [], _∷_, map}
+use mathlib.Core.List.{List, map}
 use mathlib.Core.Logic.{⊎-elim}
 use native.Mathlib.Omega.{arith}
 use borrow.Author.Tests.{eq-eqb, ne-eqb}
@@ -19,7 +19,7 @@ use Rattle.decoder.specs.Listed.{Listing, listFrom}
 use Rattle.decoder.proofs.Listed.{list-done, list-end, list-refused}
 use Rattle.flow.specs.Flow.{flowOf}
 use Rattle.targets.specs.Targets.{jumpTable, found}
-use Rattle.disasm.specs.Lines.{tableCheck, switchCheck, codeCheck, listingCheck}
+use Rattle.disasm.specs.Lines.{tableCheck, switchCheck, codeCheck}
 use Rattle.disasm.proofs.Passing.{or-none, or-assoc}
 use Rattle.graph.specs.Lists.{elem}
 use Rattle.graph.proofs.Queues.{zero-at, at-t, off-t}

@@ -24,7 +24,7 @@ use Rattle.graph.specs.Graph.{Graph}
 use Rattle.graph.specs.Graph.Finding.{closed, leaves}
 use Rattle.graph.specs.Right.{Answer}
 use Rattle.graph.proofs.Steps.{Lawful}
-use Rattle.steps.specs.Steps.{Source, offset, walkGraph}
+use Rattle.steps.specs.Steps.{Source, offset}
 use Rattle.steps.specs.Ways.{searchGraph}
 use Rattle.walk.specs.Walk.{codeOf, headerCheck, unless, walkSource}
 use Rattle.walk.specs.declared.Setup.{Setup}

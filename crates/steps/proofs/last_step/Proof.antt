@@ -1,5 +1,4 @@
 use borrow.Author.Tests.{eq-eqb, ne-eqb}
-use mathlib.Core.Path.{refl}
 use Rattle.steps.proofs.last_step.Statement.{statement}
 use Rattle.steps.proofs.last_step.Tie as tie
 use Rattle.steps.proofs.last_step.Reads as reads

@@ -1,4 +1,4 @@
-use mathlib.Core.Path.{sym, ap, _∙_}
+use mathlib.Core.Path.{ap, _∙_}
 use Rattle.steps.proofs.Laws.{last-first, entry-zero, entry-last}
 use Rattle.steps.specs.Ways.{stepAs}
 use borrow.Author.Needs.{needs}

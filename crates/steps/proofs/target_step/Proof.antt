@@ -1,6 +1,4 @@
-use mathlib.Core.Path.{refl, sym, ap}
-use Rattle.steps.specs.Steps.{toTarget}
-use mathlib.Core.Option.{some}
+use mathlib.Core.Path.{refl}
 use borrow.Author.Needs.{needs}
 use Rattle.steps.proofs.target_step.Statement.{statement}
 use Rattle.steps.proofs.target_step.Tie as tie

@@ -3,12 +3,6 @@ use borrow.Author.Needs.{needs}
 use Rattle.targets.proofs.jump_target.Statement.{statement}
 use Rattle.targets.proofs.jump_target.Tie as tie
 
-here-requires : tie.Need-here-requires
-here-requires c κs = search needs
-
-operand-of-requires : tie.Need-operand-of-requires
-operand-of-requires c κs = search needs
-
 enum-told : tie.Need-enum-told
 enum-told c = search needs
 
@@ -21,8 +15,11 @@ enum-told-3 c = search needs
 enum-told-4 : tie.Need-enum-told-4
 enum-told-4 c = search needs
 
-distance-of-requires : tie.Need-distance-of-requires
-distance-of-requires c κs = search needs
+here-requires : tie.Need-here-requires
+here-requires c κs = search needs
+
+jump-distance-requires : tie.Need-jump-distance-requires
+jump-distance-requires c κs = search needs
 
 target-from-requires : tie.Need-target-from-requires
 target-from-requires c κs = search needs
@@ -30,8 +27,11 @@ target-from-requires c κs = search needs
 enum-told-5 : tie.Need-enum-told-5
 enum-told-5 c = search needs
 
-distance-of-requires-2 : tie.Need-distance-of-requires-2
-distance-of-requires-2 c κs = search needs
+here-requires-2 : tie.Need-here-requires-2
+here-requires-2 c κs = search needs
+
+jump-distance-requires-2 : tie.Need-jump-distance-requires-2
+jump-distance-requires-2 c κs = search needs
 
 target-from-requires-2 : tie.Need-target-from-requires-2
 target-from-requires-2 c κs = search needs
@@ -39,8 +39,11 @@ target-from-requires-2 c κs = search needs
 enum-told-6 : tie.Need-enum-told-6
 enum-told-6 c = search needs
 
-distance-of-requires-3 : tie.Need-distance-of-requires-3
-distance-of-requires-3 c κs = search needs
+here-requires-3 : tie.Need-here-requires-3
+here-requires-3 c κs = search needs
+
+jump-distance-requires-3 : tie.Need-jump-distance-requires-3
+jump-distance-requires-3 c κs = search needs
 
 target-back-requires : tie.Need-target-back-requires
 target-back-requires c κs = search needs
@@ -59,33 +62,34 @@ returns-3 c = rw (c .enum-told3 .given .1)
 
 returns-4 : tie.Need-returns-4
 unfolding jumpTarget
-returns-4 c = rw (c .before .before .enum-told4 .given .1, ← c .before .before .before .before .before .here .ensures, ← c .before .before .before .before .operand-of .ensures, ← c .before .distance-of .ensures) (c .target-from .ensures)
+returns-4 c = rw (c .before .before .before .enum-told4 .given .1, ← c .before .before .here .ensures, ← c .before .jump-distance .ensures) (c .target-from .ensures)
 
 returns-5 : tie.Need-returns-5
 unfolding jumpTarget
-returns-5 c = rw (c .before .before .enum-told5 .given .1, ← c .before .before .before .before .before .here .ensures, ← c .before .before .before .before .operand-of .ensures, ← c .before .distance-of2 .ensures) (c .target-from2 .ensures)
+returns-5 c = rw (c .before .before .before .enum-told5 .given .1, ← c .before .before .here2 .ensures, ← c .before .jump-distance2 .ensures) (c .target-from2 .ensures)
 
 returns-6 : tie.Need-returns-6
 unfolding jumpTarget
-returns-6 c = rw (c .before .before .enum-told6 .given .1, ← c .before .before .before .before .before .here .ensures, ← c .before .before .before .before .operand-of .ensures, ← c .before .distance-of3 .ensures) (c .target-back .ensures)
+returns-6 c = rw (c .before .before .before .enum-told6 .given .1, ← c .before .before .here3 .ensures, ← c .before .jump-distance3 .ensures) (c .target-back .ensures)
 
 pub jump-target-spec : {M : Type 1} → statement M
 jump-target-spec =
     tie.close
     (tie.spec
-    here-requires
-    operand-of-requires
     enum-told
     enum-told-2
     enum-told-3
     enum-told-4
-    distance-of-requires
+    here-requires
+    jump-distance-requires
     target-from-requires
     enum-told-5
-    distance-of-requires-2
+    here-requires-2
+    jump-distance-requires-2
     target-from-requires-2
     enum-told-6
-    distance-of-requires-3
+    here-requires-3
+    jump-distance-requires-3
     target-back-requires
     returns
     returns-2

@@ -4,13 +4,12 @@ use native.Mathlib.Omega.{arith}
 use borrow.Author.Needs.{needs}
 use mir.Facts.{toZ-ofZ}
 use mir.Syntax.{w32}
-use mir.Val.{toZ, SFits}
+use mir.Val.{SFits}
 use denote.Ref.{now}
 use lib.ListN.{length}
 use Rattle.refusal.specs.Check.{orElse}
 use Rattle.tables.specs.Records.{prefixOp}
 use Rattle.decoder.specs.declared.Decoded.{Decoded}
-use Rattle.decoder.specs.declared.Outcome.{Outcome}
 use Rattle.decoder.specs.Listed.{decodes}
 use Rattle.decoder.proofs.Listed.{past, decode-end}
 use Rattle.flow.specs.Flow.{flowOf, flowBy}

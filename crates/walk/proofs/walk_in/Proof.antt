@@ -1,11 +1,11 @@
 use Rattle.steps.specs.Ways.{searchGraph}
-use mathlib.Core.Path.{refl, sym, ap, _∙_}
+use mathlib.Core.Path.{sym, ap, _∙_}
 use Prim.Native.Nat.{ℕ}
 use native.Mathlib.Omega.{arith}
 use denote.Ref.{now}
 use lib.ListN.{length, replicate}
 use lib.Seq.{length-take-le}
-use Rattle.steps.specs.Steps.{Source, walkGraph}
+use Rattle.steps.specs.Steps.{Source}
 use Rattle.walk.specs.Search.{sourceOf}
 use Rattle.walk.proofs.Answers.{no-fault, ended, source-refused, source-empty, source-short, source-found}
 use borrow.Author.Needs.{needs}

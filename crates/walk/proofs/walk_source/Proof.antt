@@ -1,6 +1,6 @@
 use mir.Facts.{toZ-ofZ}
 use mir.Syntax.{w32}
-use mir.Val.{toZ, SFits}
+use mir.Val.{SFits}
 use mathlib.Core.Path.{ap}
 use Rattle.tables.specs.declared.Prefixes.{Prefixes}
 use borrow.Author.Needs.{needs}

@@ -1,9 +1,8 @@
-use Prim.Native.Nat.{_^_}
 use mathlib.Core.Path.{_≡_, ap, _∙_}
 use native.Mathlib.Omega.{arith}
 use mir.Facts.{toZ-ofZ}
 use mir.Syntax.{w32}
-use mir.Val.{toZ, SFits}
+use mir.Val.{SFits}
 use denote.Ref.{now}
 use Rattle.decoder.specs.Listed.{decodes}
 use Rattle.flow.specs.Flow.{flowOf, flowBy}
