@@ -142,8 +142,24 @@ fn has_name_by(opcodes: &[u8], at: usize, k: u8, b: u8) -> bool
     has_flow_name(opcodes, at, k)
 }
 
-// Whether the opcode record at place at has name k.
+// Whether the opcode record at place at has name k. A function lays out in memory every name it holds, whichever is asked for, so they stand in
+// five groups.
 fn has_flow_name(s: &[u8], at: usize, k: u8) -> bool
+    requires { ⌜ k < 37 ⌝ }
+    ensures { λ r. ⌜ r ≡ hasFlowName (now (s .entry)) at k ⌝ }
+{
+    match k {
+        0..=4 => end_name(s, at, k),
+        5..=8 => jump_name(s, at, k),
+        9..=21 => branch_name(s, at, k),
+        22..=34 => constant_name(s, at, k),
+        _ => switch_name(s, at, k),
+    }
+}
+
+// Name k of the five that end a walk.
+fn end_name(s: &[u8], at: usize, k: u8) -> bool
+    requires { ⌜ (0 ≤ k) × (k < 5) ⌝ }
     ensures { λ r. ⌜ r ≡ hasFlowName (now (s .entry)) at k ⌝ }
 {
     match k {
@@ -151,11 +167,29 @@ fn has_flow_name(s: &[u8], at: usize, k: u8) -> bool
         1 => tables::name_is(s, at, 40, b"SuspendGenerator"),
         2 => tables::name_is(s, at, 40, b"Throw"),
         3 => tables::name_is(s, at, 40, b"ReThrow"),
-        4 => tables::name_is(s, at, 40, b"Abort"),
+        _ => tables::name_is(s, at, 40, b"Abort"),
+    }
+}
+
+// Name k of the four that go to the target.
+fn jump_name(s: &[u8], at: usize, k: u8) -> bool
+    requires { ⌜ (5 ≤ k) × (k < 9) ⌝ }
+    ensures { λ r. ⌜ r ≡ hasFlowName (now (s .entry)) at k ⌝ }
+{
+    match k {
         5 => tables::name_is(s, at, 40, b"Jump"),
         6 => tables::name_is(s, at, 40, b"JumpConstant"),
         7 => tables::name_is(s, at, 40, b"JumpLoop"),
-        8 => tables::name_is(s, at, 40, b"JumpLoopConstant"),
+        _ => tables::name_is(s, at, 40, b"JumpLoopConstant"),
+    }
+}
+
+// Name k of those that go to the target or on.
+fn branch_name(s: &[u8], at: usize, k: u8) -> bool
+    requires { ⌜ (9 ≤ k) × (k < 22) ⌝ }
+    ensures { λ r. ⌜ r ≡ hasFlowName (now (s .entry)) at k ⌝ }
+{
+    match k {
         9 => tables::name_is(s, at, 40, b"JumpIfTrue"),
         10 => tables::name_is(s, at, 40, b"JumpIfFalse"),
         11 => tables::name_is(s, at, 40, b"JumpIfToBooleanTrue"),
@@ -168,7 +202,16 @@ fn has_flow_name(s: &[u8], at: usize, k: u8) -> bool
         18 => tables::name_is(s, at, 40, b"JumpIfJSReceiver"),
         19 => tables::name_is(s, at, 40, b"JumpIfNotHole"),
         20 => tables::name_is(s, at, 40, b"JumpIfReferenceError"),
-        21 => tables::name_is(s, at, 40, b"JumpIfNotReferenceError"),
+        _ => tables::name_is(s, at, 40, b"JumpIfNotReferenceError"),
+    }
+}
+
+// Name k of the same by the pool.
+fn constant_name(s: &[u8], at: usize, k: u8) -> bool
+    requires { ⌜ (22 ≤ k) × (k < 35) ⌝ }
+    ensures { λ r. ⌜ r ≡ hasFlowName (now (s .entry)) at k ⌝ }
+{
+    match k {
         22 => tables::name_is(s, at, 40, b"JumpIfTrueConstant"),
         23 => tables::name_is(s, at, 40, b"JumpIfFalseConstant"),
         24 => tables::name_is(s, at, 40, b"JumpIfToBooleanTrueConstant"),
@@ -181,9 +224,17 @@ fn has_flow_name(s: &[u8], at: usize, k: u8) -> bool
         31 => tables::name_is(s, at, 40, b"JumpIfJSReceiverConstant"),
         32 => tables::name_is(s, at, 40, b"JumpIfNotHoleConstant"),
         33 => tables::name_is(s, at, 40, b"JumpIfReferenceErrorConstant"),
-        34 => tables::name_is(s, at, 40, b"JumpIfNotReferenceErrorConstant"),
+        _ => tables::name_is(s, at, 40, b"JumpIfNotReferenceErrorConstant"),
+    }
+}
+
+// Name k of the two switches.
+fn switch_name(s: &[u8], at: usize, k: u8) -> bool
+    requires { ⌜ (35 ≤ k) × (k < 37) ⌝ }
+    ensures { λ r. ⌜ r ≡ hasFlowName (now (s .entry)) at k ⌝ }
+{
+    match k {
         35 => tables::name_is(s, at, 40, b"SwitchOnSmiNoFeedback"),
-        36 => tables::name_is(s, at, 40, b"SwitchOnGeneratorState"),
-        _ => tables::name_is(s, at, 40, b""),
+        _ => tables::name_is(s, at, 40, b"SwitchOnGeneratorState"),
     }
 }
