@@ -1,3 +1,4 @@
 pub mod Passing
 pub mod Laws
 pub mod Searched
+pub mod Checking

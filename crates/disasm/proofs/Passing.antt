@@ -1,7 +1,8 @@
 -- A pass over the instructions of a code: what holds at each of them, and what its end says. Assumes nothing.
 use Prim.Native.Nat.{ℕ, suc, _+_, _-_, _<_, _≤_, _^_}
 use mathlib.Core.Path.{_≡_, refl, sym, ap, subst, _∙_}
-use mathlib.Core.List.{List}
+use mathlib.Core.Bool.{Bool}
+use mathlib.Core.List.{List, [], _∷_}
 use native.Mathlib.Omega.{arith}
 use lib.ListN.{length}
 use Rattle.refusal.specs.declared.Refusal.{Refusal}
@@ -20,7 +21,7 @@ use Rattle.targets.specs.declared.Pool.{Pool}
 use Rattle.targets.specs.Targets.{jumpTable, found, poolSearched}
 use Rattle.lines.specs.Line.{View, lineText}
 use Rattle.lines.proofs.Written.{Written, written-none, written-more, written-all, written-kept}
-use Rattle.disasm.specs.Lines.{linesText, tableCheck, switchCheck, codeCheck, Passed}
+use Rattle.disasm.specs.Lines.{linesText, tableCheck, switchCheck, codeCheck, listingCheck, Passed}
 
 pub or-none : (a : Check) → orElse a Ok ≡ a
 or-none Ok = refl
@@ -30,75 +31,103 @@ pub or-assoc : (a b c : Check) → orElse (orElse a b) c ≡ orElse a (orElse b 
 or-assoc Ok b c = refl
 or-assoc (Refused r) b c = refl
 
-module _ (v : View) (d : ℕ → Decoded) (len : ℕ) where
+module _ (d : ℕ → Decoded) (len : ℕ) where
   abbrev pub allOf : Listing
   allOf = listFrom d (suc len) 0
 
   abbrev pub restOf : ℕ → ℕ → Listing
   restOf n i = listFrom d (suc len - n) i
 
-  -- n instructions are passed, up to place i of the code
-  pub record Passing (o : List ℕ) (p₀ : ℕ) (o′ : List ℕ) (p : ℕ) (check : Check) (i : ℕ) : Type 0 where
+module _ (ops : List ℕ) (pooled : Bool) (d : ℕ → Decoded) (len : ℕ) where
+  -- some instructions are passed, up to place i of the code; check is the first fault of their switches
+  pub record Going (check : Check) (i : ℕ) : Type 0 where
     pub passed : ℕ
     pub few : passed ≤ i
     pub inside : i ≤ len
-    pub outcome : allOf .outcome ≡ restOf passed i .outcome
-    pub switches : switchCheck (v .opcodes) (v .pooled) (allOf .instrs) ≡ orElse check (switchCheck (v .opcodes) (v .pooled) (restOf passed i .instrs))
-    pub lines : Written o p₀ (linesText v (allOf .instrs)) (linesText v (restOf passed i .instrs)) o′ p
+    pub outcome : allOf d len .outcome ≡ restOf d len passed i .outcome
+    pub switches : switchCheck ops pooled (allOf d len .instrs) ≡ orElse check (switchCheck ops pooled (restOf d len passed i .instrs))
 
-  pub passing-start : (o : List ℕ) (p : ℕ) {r : ℕ} → r ≡ place (p + 0) → Passing o p o r Ok 0
-  passing-start o p e =
-      let z : suc len - 0 ≡ suc len = omega arith in
-      record { passed = 0; few = omega arith; inside = omega arith; outcome = rw z; switches = rw z; lines = rw z (written-none o p _ e) }
+  unfoldable pub going-start : Going Ok 0
+  going-start = let z : suc len - 0 ≡ suc len = omega arith in record { passed = 0; few = omega arith; inside = omega arith; outcome = rw z; switches = rw z }
 
-  module _ {o o′ : List ℕ} {p₀ p i : ℕ} {check : Check} (h : length o ≤ 2 ^ 63) (s : Passing o p₀ o′ p check i) where
-    fuel : suc len - s .passed ≡ suc (len - s .passed)
-    fuel = omega (arith, s .few, s .inside)
-
+  module _ {i : ℕ} {check : Check} (s : Going check i) where
     -- what is left, by what is decoded at i
-    rest-is : {l : Listing} → listFrom d (suc (len - s .passed)) i ≡ l → restOf (s .passed) i ≡ l
-    rest-is e = ap (λ (f : ℕ). listFrom d f i) fuel ∙ e
+    pub rest-is : {l : Listing} → listFrom d (suc (len - s .passed)) i ≡ l → restOf d len (s .passed) i ≡ l
+    rest-is e = let fuel : suc len - s .passed ≡ suc (len - s .passed) = omega (arith, s .few, s .inside) in ap (λ (f : ℕ). listFrom d f i) fuel ∙ e
 
-    pub passing-refused : (r : Refusal) → d i .outcome ≡ Outcome.Refused r → Passed v allOf o p₀ o′ (record { check = Refused r; place = p })
-    passing-refused r e =
+    pub going-refused : (r : Refusal) → d i .outcome ≡ Outcome.Refused r → (Refused r ≡ listingCheck ops pooled (allOf d len)) × (codeCheck (allOf d len .outcome) ≡ Ok → ⊥)
+    going-refused r e =
         let f = s .outcome ∙ ap (λ (l : Listing). l .outcome) (rest-is (list-refused d (len - s .passed) i r e)) in
-        record {
-          checked = sym (ap (λ (x : Outcome). orElse (codeCheck x) (switchCheck (v .opcodes) (v .pooled) (allOf .instrs))) f);
-          written = λ ok. absurd (never r (sym (ap codeCheck f) ∙ ok));
-          kept = written-kept (s .lines);
-        }
+        (sym (ap (λ (x : Outcome). orElse (codeCheck x) (switchCheck ops pooled (allOf d len .instrs))) f), λ ok. never r (sym (ap codeCheck f) ∙ ok))
       where
         never : (r : Refusal) → Refused r ≡ Ok → ⊥
         never r e = let z : _≡_ {A = ℕ} 0 1 = cc in omega arith
 
-    pub passing-end : d i .outcome ≡ Outcome.End → Passed v allOf o p₀ o′ (record { check = check; place = p })
-    unfolding switchCheck linesText
-    passing-end e =
+    pub going-end : d i .outcome ≡ Outcome.End → (check ≡ listingCheck ops pooled (allOf d len)) × (restOf d len (s .passed) i .instrs ≡ [])
+    unfolding switchCheck
+    going-end e =
         let rest = rest-is (list-end d (len - s .passed) i e) in
         let f = s .outcome ∙ ap (λ (l : Listing). l .outcome) rest in
-        let g = s .switches ∙ ap (λ (l : Listing). orElse check (switchCheck (v .opcodes) (v .pooled) (l .instrs))) rest ∙ or-none check in
-        record {
-          checked = sym (ap (λ (x : Outcome). orElse (codeCheck x) (switchCheck (v .opcodes) (v .pooled) (allOf .instrs))) f ∙ g);
-          written = λ ok. written-all (ap (λ (l : Listing). linesText v (l .instrs)) rest) (s .lines);
-          kept = written-kept (s .lines);
-        }
+        let g = s .switches ∙ ap (λ (l : Listing). orElse check (switchCheck ops pooled (l .instrs))) rest ∙ or-none check in
+        (sym (ap (λ (x : Outcome). orElse (codeCheck x) (switchCheck ops pooled (allOf d len .instrs))) f ∙ g), ap (λ (l : Listing). l .instrs) rest)
 
-    pub passing-done : (c′ : Check) {o″ : List ℕ} {p′ : ℕ} → d i .outcome ≡ Outcome.Done → i < d i .instr .end → d i .instr .end ≤ len
-        → c′ ≡ orElse check (tableCheck (jumpTable (v .pooled) (flowOf (v .opcodes) (d i .instr .opcode)) (d i .instr)) (d i .instr .offset))
-        → Put o′ p (lineText v (d i .instr)) o″ p′ → Passing o p₀ o″ p′ c′ (d i .instr .end)
-    unfolding switchCheck linesText
-    passing-done c′ e low high is put =
+    -- the instruction at i, and what is left behind it
+    pub going-instrs : d i .outcome ≡ Outcome.Done → restOf d len (s .passed) i .instrs ≡ d i .instr ∷ restOf d len (suc (s .passed)) (d i .instr .end) .instrs
+    going-instrs e =
+        let next : suc len - suc (s .passed) ≡ len - s .passed = omega arith in
+        rw next (ap (λ (l : Listing). l .instrs) (rest-is (list-done d (len - s .passed) i e)))
+
+    unfoldable pub going-done : (c′ : Check) → d i .outcome ≡ Outcome.Done → i < d i .instr .end → d i .instr .end ≤ len
+        → c′ ≡ orElse check (tableCheck (jumpTable pooled (flowOf ops (d i .instr .opcode)) (d i .instr)) (d i .instr .offset))
+        → Going c′ (d i .instr .end)
+    unfolding switchCheck
+    going-done c′ e low high is =
         let rest = rest-is (list-done d (len - s .passed) i e) in
         let next : suc len - suc (s .passed) ≡ len - s .passed = omega arith in
-        let t = tableCheck (jumpTable (v .pooled) (flowOf (v .opcodes) (d i .instr .opcode)) (d i .instr)) (d i .instr .offset) in
+        let t = tableCheck (jumpTable pooled (flowOf ops (d i .instr .opcode)) (d i .instr)) (d i .instr .offset) in
         let r = listFrom d (len - s .passed) (d i .instr .end) in
         record {
           passed = suc (s .passed);
           few = omega (arith, s .few);
           inside = high;
           outcome = rw next (s .outcome ∙ ap (λ (l : Listing). l .outcome) rest);
-          switches = rw (next, is) (s .switches ∙ ap (λ (l : Listing). orElse check (switchCheck (v .opcodes) (v .pooled) (l .instrs))) rest ∙ sym (or-assoc check t (switchCheck (v .opcodes) (v .pooled) (r .instrs))));
-          lines = rw next (written-more (lineText v (d i .instr)) (linesText v (r .instrs)) h (ap (λ (l : Listing). linesText v (l .instrs)) rest) (s .lines) put);
+          switches = rw (next, is) (s .switches ∙ ap (λ (l : Listing). orElse check (switchCheck ops pooled (l .instrs))) rest ∙ sym (or-assoc check t (switchCheck ops pooled (r .instrs))));
+        }
+
+-- ---- a pass that writes
+
+module _ (v : View) (d : ℕ → Decoded) (len : ℕ) where
+  pub record Passing (o : List ℕ) (p₀ : ℕ) (o′ : List ℕ) (p : ℕ) (check : Check) (i : ℕ) : Type 0 where
+    pub going : Going (v .opcodes) (v .pooled) d len check i
+    pub lines : Written o p₀ (linesText v (allOf d len .instrs)) (linesText v (restOf d len (going .passed) i .instrs)) o′ p
+
+  pub passing-start : (o : List ℕ) (p : ℕ) {r : ℕ} → r ≡ place (p + 0) → Passing o p o r Ok 0
+  unfolding going-start
+  passing-start o p e =
+      let z : suc len - 0 ≡ suc len = omega arith in
+      record { going = going-start (v .opcodes) (v .pooled) d len; lines = rw z (written-none o p _ e) }
+
+  module _ {o o′ : List ℕ} {p₀ p i : ℕ} {check : Check} (h : length o ≤ 2 ^ 63) (s : Passing o p₀ o′ p check i) where
+    pub passing-refused : (r : Refusal) → d i .outcome ≡ Outcome.Refused r → Passed v (allOf d len) o p₀ o′ (record { check = Refused r; place = p })
+    passing-refused r e =
+        let g = going-refused (v .opcodes) (v .pooled) d len (s .going) r e in
+        record { checked = g .0; written = λ ok. absurd (g .1 ok); kept = written-kept (s .lines) }
+
+    pub passing-end : d i .outcome ≡ Outcome.End → Passed v (allOf d len) o p₀ o′ (record { check = check; place = p })
+    unfolding linesText
+    passing-end e =
+        let g = going-end (v .opcodes) (v .pooled) d len (s .going) e in
+        record { checked = g .0; written = λ ok. written-all (ap (linesText v) (g .1)) (s .lines); kept = written-kept (s .lines) }
+
+    pub passing-done : (c′ : Check) {o″ : List ℕ} {p′ : ℕ} → d i .outcome ≡ Outcome.Done → i < d i .instr .end → d i .instr .end ≤ len
+        → c′ ≡ orElse check (tableCheck (jumpTable (v .pooled) (flowOf (v .opcodes) (d i .instr .opcode)) (d i .instr)) (d i .instr .offset))
+        → Put o′ p (lineText v (d i .instr)) o″ p′ → Passing o p₀ o″ p′ c′ (d i .instr .end)
+    unfolding linesText going-done
+    passing-done c′ e low high is put =
+        let g = s .going in
+        record {
+          going = going-done (v .opcodes) (v .pooled) d len g c′ e low high is;
+          lines = written-more (lineText v (d i .instr)) (linesText v (restOf d len (suc (g .passed)) (d i .instr .end) .instrs)) h (ap (linesText v) (going-instrs (v .opcodes) (v .pooled) d len g e)) (s .lines) put;
         }
 
 -- ---- the same, of what a call gave: x is what was decoded at i
@@ -111,10 +140,10 @@ module _ (v : View) (d : ℕ → Decoded) (len : ℕ) {o o′ : List ℕ} {p₀ 
       → c′ ≡ orElse check (tableCheck (jumpTable (v .pooled) (flowOf (v .opcodes) (y .instr .opcode)) (y .instr)) (y .instr .offset))
       → Put o′ p (lineText v (y .instr)) o″ p′ → Passing v d len o p₀ o″ p′ c′ (y .instr .end)) (sym is) (passing-done v d len h s c′)
 
-  pub refused-at : (r : Refusal) → x .outcome ≡ Outcome.Refused r → Passed v (allOf v d len) o p₀ o′ (record { check = Refused r; place = p })
+  pub refused-at : (r : Refusal) → x .outcome ≡ Outcome.Refused r → Passed v (allOf d len) o p₀ o′ (record { check = Refused r; place = p })
   refused-at r e = passing-refused v d len h s r (ap (λ (y : Decoded). y .outcome) (sym is) ∙ e)
 
-  pub end-at : x .outcome ≡ Outcome.End → Passed v (allOf v d len) o p₀ o′ (record { check = check; place = p })
+  pub end-at : x .outcome ≡ Outcome.End → Passed v (allOf d len) o p₀ o′ (record { check = check; place = p })
   end-at e = passing-end v d len h s (ap (λ (y : Decoded). y .outcome) (sym is) ∙ e)
 
 -- what a function's lines are made from, of the lent files

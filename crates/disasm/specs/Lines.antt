@@ -1,5 +1,5 @@
 -- The lines of a function's instructions, and the checks that are met as they are made.
-use Prim.Native.Nat.{ℕ}
+use Prim.Native.Nat.{ℕ, _+_}
 use mathlib.Core.Path.{_≡_}
 use mathlib.Core.List.{List, [], _∷_, _++_}
 use mathlib.Core.Bool.{Bool}
@@ -7,7 +7,7 @@ use lib.ListN.{length}
 use Rattle.refusal.specs.declared.Check.{Check}
 use Rattle.refusal.specs.declared.Check.the-variants.{Ok, Refused}
 use Rattle.refusal.specs.Check.{refused, orElse}
-use Rattle.text.specs.Put.{Put}
+use Rattle.text.specs.Put.{Put, place}
 use Rattle.decoder.specs.declared.Instr.{Instr}
 use Rattle.decoder.specs.declared.Outcome.{Outcome}
 use Rattle.decoder.specs.Listed.{Listing}
@@ -16,6 +16,7 @@ use Rattle.targets.specs.Targets.{jumpTable}
 use Rattle.targets.specs.declared.Table.{Table}
 use Rattle.targets.specs.declared.Table.the-variants as table
 use Rattle.lines.specs.Line.{View, lineText}
+use Rattle.lines.specs.Room.{lineRoom}
 use Rattle.disasm.specs.declared.Pass.{Pass}
 
 -- the lines, one after the other
@@ -49,3 +50,14 @@ pub record Passed (v : View) (l : Listing) (o : List ℕ) (p : ℕ) (o′ : List
   pub checked : r .check ≡ listingCheck (v .opcodes) (v .pooled) l
   pub written : codeCheck (l .outcome) ≡ Ok → Put o p (linesText v (l .instrs)) o′ (r .place)
   pub kept : length o′ ≡ length o
+
+-- a length that the lines are not longer than
+unfoldable pub linesRoom : List ℕ → Bool → List Instr → ℕ
+linesRoom ops pooled [] = 0
+linesRoom ops pooled (i ∷ is) = lineRoom i (jumpTable pooled (flowOf ops (i .opcode)) i) + linesRoom ops pooled is
+
+-- what a pass that writes nothing answers: the checks, and, where decoding came to the code's end, room for the lines and for 250 bytes, which
+-- the header has not
+pub record Checked (ops : List ℕ) (pooled : Bool) (l : Listing) (r : Pass) : Type 0 where
+  pub checked : r .check ≡ listingCheck ops pooled l
+  pub room : codeCheck (l .outcome) ≡ Ok → r .place ≡ place (250 + linesRoom ops pooled (l .instrs))

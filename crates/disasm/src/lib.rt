@@ -23,7 +23,7 @@ ghost use lib.ListN.{length};
 ghost use Rattle.flow.specs.Flow.{Numbered};
 ghost use Rattle.targets.specs.Targets.{poolSearched, found};
 ghost use Rattle.lines.specs.Line.{lineText};
-ghost use Rattle.disasm.specs.Lines.{tableCheck, Passed};
+ghost use Rattle.disasm.specs.Lines.{tableCheck, Passed, Checked};
 ghost use Rattle.disasm.specs.Listing.{headerText, poolBy, listView, listWith, ListedAs, Whole, checkFiles, listSearched, listCall};
 
 // The answer to a request for a listing: its length, or a refusal.
@@ -200,8 +200,78 @@ fn list_header(
     )
 }
 
-// Measured first, with 11 to 16; then 17; then written.
+// 11 to 16 first; then written, measured before only where the buffer might be too short.
 fn list_code(
+    out: &mut [u8],
+    code: &[u8],
+    opcodes: &[u8],
+    types: &[u8],
+    runtime: &[u8],
+    intrinsic: &[u8],
+    slots: &[u8],
+    payload: &[u8],
+    flows: &[u8],
+    ts: u8,
+    pool: Pool,
+    frame: Frame,
+    h: Header,
+    wide: usize,
+    extra: usize,
+) -> Listed
+    requires { ⌜ Numbered (now opcodes) (now flows) 256 ⌝ }
+    ensures { λ r. ⌜ ListedAs (listView (record { code = now (code .entry); opcodes = now (opcodes .entry); names = record { types = now (types .entry); runtime = now (runtime .entry); intrinsic = now (intrinsic .entry) }; frame = frame; params = h .«parameter_count»; pooled = found pool; elem = poolSearched (now (slots .entry)) (now (payload .entry)) ts pool }) h (listFrom (λ i. decodeAt (now (code .entry)) (now (opcodes .entry)) (now (types .entry)) i (frame .«reg_file_start») wide extra) (suc (length (now (code .entry)))) 0) (now (out .entry))) r (now (out .exit)) ⌝ }
+{
+    let rfs = frame.reg_file_start;
+    let first = check_lines(code, opcodes, types, flows, pool, rfs, wide, extra);
+    let check = first.check;
+    let room = first.place;
+    match check {
+        Check::Refused(refusal) => Listed::Refused(refusal),
+        Check::Ok => {
+            if room <= out.len() {
+                let written = put_all(
+                    out,
+                    code,
+                    opcodes,
+                    types,
+                    runtime,
+                    intrinsic,
+                    slots,
+                    payload,
+                    flows,
+                    ts,
+                    pool,
+                    frame,
+                    h,
+                    wide,
+                    extra,
+                );
+                Listed::Done(written.place)
+            } else {
+                list_measured(
+                    out,
+                    code,
+                    opcodes,
+                    types,
+                    runtime,
+                    intrinsic,
+                    slots,
+                    payload,
+                    flows,
+                    ts,
+                    pool,
+                    frame,
+                    h,
+                    wide,
+                    extra,
+                )
+            }
+        }
+    }
+}
+
+// Measured, with 11 to 16; then 17; then written.
+fn list_measured(
     out: &mut [u8],
     code: &[u8],
     opcodes: &[u8],
@@ -392,6 +462,47 @@ fn put_lines(
                     instr,
                 );
                 p = text::plus(p, w);
+                i = instr.end;
+            }
+        }
+    }
+    Pass { check, place: p }
+}
+
+// 11 to 16, and room for all lines and the header.
+fn check_lines(
+    code: &[u8],
+    opcodes: &[u8],
+    types: &[u8],
+    flows: &[u8],
+    pool: Pool,
+    rfs: i32,
+    wide: usize,
+    extra: usize,
+) -> Pass
+    requires { ⌜ Numbered (now opcodes) (now flows) 256 ⌝ }
+    ensures { λ r. ⌜ Checked (now (opcodes .entry)) (found pool) (listFrom (λ i. decodeAt (now (code .entry)) (now (opcodes .entry)) (now (types .entry)) i rfs wide extra) (suc (length (now (code .entry)))) 0) r ⌝ }
+{
+    let mut p: usize = 250;
+    let mut check = Check::Ok;
+    let mut i: usize = 0;
+    while i < code.len() {
+        let read = decoder::decode_at(code, opcodes, types, i, rfs, wide, extra);
+        let outcome = read.outcome;
+        let instr = read.instr;
+        match outcome {
+            Outcome::Refused(refusal) => {
+                return Pass {
+                    check: Check::Refused(refusal),
+                    place: p,
+                };
+            }
+            Outcome::End => return Pass { check, place: p },
+            Outcome::Done => {
+                let flow = flow::flow_by(words::byte_at(flows, instr.opcode as usize));
+                let table = targets::jump_table(pool, flow, instr);
+                check = refusal::or_else(check, table_check(table, instr.offset));
+                p = text::plus(p, lines::line_room(instr, table));
                 i = instr.end;
             }
         }

@@ -12,8 +12,9 @@ ghost use mathlib.Core.List.{[]};
 ghost use mathlib.Core.Bool.{cond, false};
 ghost use Rattle.laws.specs.Ascii.{ascii};
 ghost use Prim.Native.Nat.{_-_, min};
-ghost use Rattle.text.specs.Put.{Put};
+ghost use Rattle.text.specs.Put.{Put, place};
 ghost use Rattle.targets.specs.Targets.{poolSearched, found};
+ghost use Rattle.lines.specs.Room.{entriesOf, lineRoom};
 ghost use Rattle.lines.specs.Line.{View, before, operandsBy, placeText, targetText, entryText, shownAfter, entriesFrom, tableText, lineBy};
 
 // A line, from the start of the buffer it is lent: offset, bytes, name, operands, target and entries.
@@ -44,6 +45,29 @@ pub fn put_line(
     let at = targets::here(instr);
     let p = put_table(out, p, slots, payload, ts, pool, at, table);
     text::put_byte(out, p, b'\n')
+}
+
+// A length that no line of this instruction and table is longer than.
+pub fn line_room(instr: Instr, table: Table) -> usize
+    ensures { λ r. ⌜ r ≡ place (lineRoom instr table) ⌝ }
+{
+    let count = text::least(instr.count, 8);
+    let size = size_of(instr);
+    let p = 150 + 72 * count + 46 * entries_of(table) as usize;
+    let p = text::plus(p, size);
+    let p = text::plus(p, size);
+    text::plus(p, size)
+}
+
+// How many entries a table has.
+fn entries_of(table: Table) -> u16
+    ensures { λ r. ⌜ r ≡ entriesOf table ⌝ }
+{
+    match table {
+        Table::Nothing => 0,
+        Table::Refused => 0,
+        Table::At(e) => e.count,
+    }
 }
 
 // The offset and the bytes of an instruction.

@@ -14,8 +14,8 @@ use Rattle.refusal.specs.declared.Check.{Check}
 use Rattle.refusal.specs.declared.Check.the-variants.{Ok, Refused}
 use Rattle.refusal.specs.Check.{refusalAt, orElse, unlessGood}
 use Rattle.text.specs.Put.{Put}
-use Rattle.text.specs.Texts.{lastDigits, decimal}
 use Rattle.text.proofs.Put.{kept, fits}
+use Rattle.text.proofs.Texts.{digits-few}
 use Rattle.store.specs.Records.{objectOf}
 use Rattle.store.specs.Check.{checkStore, checkCodeObject}
 use Rattle.serializer.specs.declared.Elem.{Elem}
@@ -107,19 +107,9 @@ limited-tells f o = alike (limited f) (limited-call f) o
 
 -- ---- a refusal's line fits 64 bytes
 
-either : (b : Bool) (s t : List ℕ) (m : ℕ) → length s ≤ m → length t ≤ m → length (cond b s t) ≤ m
-either true s t m h k = h
-either false s t m h k = k
-
-digits : (k n : ℕ) → length (lastDigits k n) ≤ k
-unfolding lastDigits
-digits zero n = omega arith
-digits (suc k) n =
-    either (ltb n 10) _ _ (suc k) (omega arith) (rw length-append (omega (arith, digits k (n / 10))))
-
 line : (r : Refusal) → length (refusalText r) ≤ 64
-unfolding refusalText decimal
-line r = rw (length-append, length-append, length-append, length-append) (omega (arith, digits 20 (r .number), digits 20 (r .place)))
+unfolding refusalText
+line r = rw (length-append, length-append, length-append, length-append) (omega (arith, digits-few (r .number), digits-few (r .place)))
 
 -- ---- what is printed
 
@@ -205,9 +195,9 @@ module _ (f : Files) (n : ℕ) (beyond : withinLimit (length (f .objects)) (leng
       sym (ap (λ (c : Check). walk.unless (orElse c (unlessGood b 6)) M (walkCall f 0 M) .0) e)
 
 walk-line : (w : Walked) → length (walkText w) ≤ 64
-unfolding walkText decimal
+unfolding walkText
 walk-line walked.Closed = omega arith
-walk-line (walked.Leaves n o) = rw (length-append, length-append, length-append, length-append) (omega (arith, digits 20 n, digits 20 o))
+walk-line (walked.Leaves n o) = rw (length-append, length-append, length-append, length-append) (omega (arith, digits-few n, digits-few o))
 walk-line (walked.Refused r) = line r
 
 pub walk-printed : (f : Files) (o : List ℕ) → length o < 2 ^ 63 → (w : Walked) → w ≡ walkAnswer f 65536 → {o′ : List ℕ} {n : ℕ} → Put o 0 (walkText w) o′ n → Printed (walkShown f) o o′ n

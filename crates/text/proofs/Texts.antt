@@ -36,14 +36,14 @@ unfolding decimal
 decimal-more n l h = rw (enough 18 (n / 10) (omega arith)) (longer 19 n h)
 
 -- how many digits a number has
+pub either : (b : Bool) (s t : List ℕ) {n : ℕ} → length s ≤ n → length t ≤ n → length (cond b s t) ≤ n
+either true s t h k = h
+either false s t h k = k
+
 few : (k n : ℕ) → length (lastDigits k n) ≤ k
 unfolding lastDigits
 few zero n = omega arith
-few (suc k) n = go (few k (n / 10)) (ltb n 10)
-  where
-    go : length (lastDigits k (n / 10)) ≤ k → (b : Bool) → length (cond b ((48 + n) ∷ []) (lastDigits k (n / 10) ++ ((48 + n % 10) ∷ []))) ≤ suc k
-    go h true = omega arith
-    go h false = rw length-append (omega arith)
+few (suc k) n = either (ltb n 10) _ _ (omega arith) (rw length-append (omega (arith, few k (n / 10))))
 
 pub digits-few : (n : ℕ) → length (decimal n) ≤ 20
 unfolding decimal

@@ -140,7 +140,7 @@ returns-3 : tie.Need-returns-3 Inv-loop μ-loop
 returns-3 c =
     let a = c .before .before .before .before .before .before .before .before .before .before .before .before .before .args in
     let l = c .before .loop in
-    let e : l .i ≡ length (now (a .code)) = omega (arith, l .inv .inside, c .loop-test .left) in
+    let e : l .i ≡ length (now (a .code)) = omega (arith, l .inv .going .inside, c .loop-test .left) in
     simp (toZ-ofZ (c .before .before .before .before .before .before .before .before .before .before .before .before .before .fits .params)) at (passing-end _ _ _ (omega (arith, c .before .before .before .before .before .before .before .before .before .before .before .before .before .good)) (l .inv) (decode-end (now (a .code)) (now (a .opcodes)) (now (a .types)) (a .frame .«reg_file_start») (a .wide) (a .extra) (l .i) e))
 
 pub put-lines-spec : {M : Type 1} → statement M

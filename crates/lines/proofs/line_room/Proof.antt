@@ -1,0 +1,68 @@
+use native.Mathlib.Omega.{arith}
+use Rattle.lines.specs.Room.{lineRoom}
+use borrow.Author.Needs.{needs}
+use Rattle.lines.proofs.line_room.Statement.{statement}
+use Rattle.lines.proofs.line_room.Tie as tie
+
+least-requires : tie.Need-least-requires
+least-requires c κs = search needs
+
+size-of-requires : tie.Need-size-of-requires
+size-of-requires c κs = search needs
+
+mul-p : tie.Need-mul-p
+mul-p c = search needs
+
+add-p : tie.Need-add-p
+add-p c = search needs
+
+entries-of-requires : tie.Need-entries-of-requires
+entries-of-requires c κs = search needs
+
+cast-p : tie.Need-cast-p
+cast-p c = search needs
+
+mul-p-2 : tie.Need-mul-p-2
+mul-p-2 c = search needs
+
+add-p-2 : tie.Need-add-p-2
+add-p-2 c = search needs
+
+plus-requires : tie.Need-plus-requires
+plus-requires c κs = search needs
+
+plus-requires-2 : tie.Need-plus-requires-2
+plus-requires-2 c κs = search needs
+
+plus-requires-3 : tie.Need-plus-requires-3
+plus-requires-3 c κs = search needs
+
+returns : tie.Need-returns
+unfolding lineRoom
+returns c =
+    omega (
+      arith,
+      c .before .before .before .before .before .least .ensures,
+      c .before .before .before .before .size-of .ensures,
+      c .before .before .before .entries-of .ensures,
+      c .before .before .plus .ensures,
+      c .before .plus2 .ensures,
+      c .plus3 .ensures,
+    )
+
+pub line-room-spec : {M : Type 1} → statement M
+line-room-spec =
+    tie.close
+    (tie.spec
+    least-requires
+    size-of-requires
+    mul-p
+    add-p
+    entries-of-requires
+    cast-p
+    mul-p-2
+    add-p-2
+    plus-requires
+    plus-requires-2
+    plus-requires-3
+    returns)
