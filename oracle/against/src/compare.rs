@@ -11,11 +11,14 @@ use std::fmt;
 const ROOM: usize = 1 << 18;
 /// So many differences are made small and shown.
 const SHOWN: usize = 20;
-/// The numbers that a listing, and one instruction, can be refused with.
+/// The numbers that a listing, one instruction, and a walk check can be refused with.
 const OF_LISTING: [usize; 16] = [1, 2, 3, 4, 5, 6, 7, 8, 9, 11, 12, 13, 14, 15, 16, 17];
 const OF_DECODING: [usize; 12] = [1, 2, 3, 4, 5, 10, 11, 12, 13, 14, 15, 20];
-/// The numbers that the walks of a function of code over a good table and store can be refused with.
-const OF_WALKS: [usize; 9] = [9, 11, 12, 13, 14, 15, 16, 18, 19];
+const OF_WALKS: [usize; 17] = [1, 2, 3, 4, 5, 6, 7, 8, 9, 11, 12, 13, 14, 15, 16, 18, 19];
+/// As many marks as the code of nearly every case has bytes.
+const MARKS: usize = 1 << 12;
+/// As long as the listing of every short code.
+const SHORT_ROOM: usize = 1 << 10;
 
 #[derive(Default)]
 pub struct Report {
@@ -132,27 +135,34 @@ impl Compare {
             2 => length,
             _ => length + turn % 100,
         };
-        self.walk(function, room as usize);
+        if !self.walk(&files, room as usize) {
+            self.smaller_walk(function, room as usize);
+        }
     }
 
-    /// The eight files, as they are, listed.
+    /// The eight files, as they are, listed, and their walks checked.
     pub fn files(&mut self, r: &mut Random, kind: &'static str, files: &Files) {
         self.case(kind);
-        if !self.list(files, ROOM) {
-            self.smaller_files(kind, files);
+        if !self.list(files, ROOM) && self.to_show() {
+            let small = smaller_files(files, |files| self.differs(files, ROOM));
+            self.difference(kind.to_string(), &small, ROOM);
         }
         self.rooms(r, files);
+        if !self.walk(files, MARKS) && self.to_show() {
+            let small = smaller_files(files, |files| self.walks_differ(files, MARKS));
+            self.walk_difference(kind.to_string(), &small, MARKS);
+        }
     }
 
-    /// A short code of the sample.
-    pub fn short(&mut self, files: &Files, code: &[u8], list: bool) {
-        self.case("short codes, decoded");
+    /// A short code of the sample: its first instruction, its listing and its walks.
+    pub fn short(&mut self, files: &Files, code: &[u8]) {
+        self.case("short codes");
         self.decode(files, code, 0);
-        if list {
-            self.case("short codes, listed");
-            if !self.list(files, ROOM) {
-                self.difference(format!("short code {code:02x?}"), files, ROOM);
-            }
+        if !self.list(files, SHORT_ROOM) {
+            self.difference(format!("short code {code:02x?}"), files, SHORT_ROOM);
+        }
+        if !self.walk(files, code.len()) {
+            self.walk_difference(format!("short code {code:02x?}"), files, code.len());
         }
     }
 
@@ -208,44 +218,28 @@ impl Compare {
         same
     }
 
-    /// The walks of a function, with so many marks: the answer and the marks.
-    fn walk(&mut self, function: &Function, room: usize) {
+    /// Whether both check the walks alike, with so many marks: the answer and the marks; counted where they do.
+    fn walk(&mut self, files: &Files, room: usize) -> bool {
         self.case("walk checks");
-        let files = function.files();
-        let Ok(rust) = self.rust.walk(&files, room) else {
+        let Ok(rust) = self.rust.walk(files, room) else {
             self.report.not_comparable += 1;
-            return;
+            return true;
         };
-        if self.ours.walk(&files, function.code.len(), room) == rust {
+        let same = self.ours.walk(files, rust.marks(), room) == rust;
+        if same {
             self.report.walked[rust.number()] += 1;
             match rust {
                 Said::Walked(None, _) => self.report.closed += 1,
                 Said::Walked(Some(_), _) => self.report.leaving += 1,
                 _ => (),
             }
-            return;
         }
-        if self.report.differences.len() >= SHOWN {
-            self.report.more += 1;
-            return;
-        }
-        let code =
-            shrunk(&function.code, |code| self.walks_differ(&function.with_code(code), room));
-        let small = function.with_code(&code);
-        let files = small.files();
-        let ours = self.ours.walk(&files, code.len(), room).shown();
-        let rust = self.rust.walk(&files, room).map_or("not comparable".into(), |r| r.shown());
-        let what = format!(
-            "walk {code:02x?}, pool {:?}, {room} marks\n  ours {ours}\n  rust {rust}",
-            small.pool
-        );
-        self.told(what + &tables(&files));
+        same
     }
 
-    fn walks_differ(&mut self, function: &Function, room: usize) -> bool {
-        let files = function.files();
-        let rust = self.rust.walk(&files, room);
-        rust.is_ok_and(|rust| self.ours.walk(&files, function.code.len(), room) != rust)
+    fn walks_differ(&mut self, files: &Files, room: usize) -> bool {
+        let rust = self.rust.walk(files, room);
+        rust.is_ok_and(|rust| self.ours.walk(files, rust.marks(), room) != rust)
     }
 
     pub fn decode(&mut self, files: &Files, code: &[u8], start: usize) {
@@ -278,54 +272,46 @@ impl Compare {
         rust.is_ok_and(|rust| self.ours.list(files, room) != rust)
     }
 
+    /// Whether one more difference is shown; counted where it is not.
+    fn to_show(&mut self) -> bool {
+        let shown = self.report.differences.len() < SHOWN;
+        self.report.more += !shown as u64;
+        shown
+    }
+
     /// The function with as little code and pool as still differs.
     fn smaller_function(&mut self, function: &Function, room: usize) {
-        if self.report.differences.len() >= SHOWN {
-            self.report.more += 1;
+        if !self.to_show() {
             return;
         }
-        let code =
-            shrunk(&function.code, |code| self.differs(&function.with_code(code).files(), room));
-        let small = function.with_code(&code);
-        let pool = shrunk(&small.pool, |pool| self.differs(&small.with_pool(pool).files(), room));
-        let small = small.with_pool(&pool);
+        let small = smaller(function, |files| self.differs(files, room));
         let what = format!("code {:02x?}, pool {:?}", small.code, small.pool);
         self.difference(what, &small.files(), room);
     }
 
-    /// The files with as few records and bytes as still differ.
-    fn smaller_files(&mut self, kind: &str, files: &Files) {
-        if self.report.differences.len() >= SHOWN {
-            self.report.more += 1;
+    /// The same where the walks differ.
+    fn smaller_walk(&mut self, function: &Function, room: usize) {
+        if !self.to_show() {
             return;
         }
-        let mut small = files.clone();
-        for file in [INTRINSIC, RUNTIME, OPCODES, TYPES, SLOTS, OBJECTS, PAYLOAD] {
-            let records: Vec<Vec<u8>> =
-                small.body[file].chunks(SIZES[file]).map(<[u8]>::to_vec).collect();
-            let base = small.clone();
-            let kept = shrunk(&records, |records| {
-                let mut files = base.clone();
-                files.body[file] = records.concat();
-                self.differs(&files, ROOM)
-            });
-            small.body[file] = kept.concat();
-        }
-        self.difference(kind.to_string(), &small, ROOM);
+        let small = smaller(function, |files| self.walks_differ(files, room));
+        let what = format!("code {:02x?}, pool {:?}", small.code, small.pool);
+        self.walk_difference(what, &small.files(), room);
     }
 
     fn difference(&mut self, what: String, files: &Files, room: usize) {
         let ours = self.ours.list(files, room).shown();
         let rust = self.rust.list(files, room).map_or("not comparable".into(), |rust| rust.shown());
-        let store: Vec<String> = (OBJECTS..=PAYLOAD)
-            .map(|file| format!("\n  {} {}", NAMES[file], hex(&files.body[file])))
-            .collect();
-        let whole = format!(
-            "list, {what}\n  ours {ours}\n  rust {rust}{}{}",
-            store.concat(),
-            tables(files)
-        );
-        self.told(whole);
+        self.told(format!("list, {what}\n  ours {ours}\n  rust {rust}") + &store(files) + &tables(files));
+    }
+
+    fn walk_difference(&mut self, what: String, files: &Files, room: usize) {
+        let rust = self.rust.walk(files, room);
+        let marks = rust.as_ref().map_or(0, |rust| rust.marks());
+        let ours = self.ours.walk(files, marks, room).shown();
+        let rust = rust.map_or("not comparable".into(), |rust| rust.shown());
+        let whole = format!("walk, {what}, {room} marks\n  ours {ours}\n  rust {rust}");
+        self.told(whole + &store(files) + &tables(files));
     }
 
     fn told(&mut self, difference: String) {
@@ -334,6 +320,37 @@ impl Compare {
             false => self.report.more += 1,
         }
     }
+}
+
+/// The function with as little code and pool as still differs.
+fn smaller(function: &Function, mut differs: impl FnMut(&Files) -> bool) -> Function {
+    let code = shrunk(&function.code, |code| differs(&function.with_code(code).files()));
+    let small = function.with_code(&code);
+    let pool = shrunk(&small.pool, |pool| differs(&small.with_pool(pool).files()));
+    small.with_pool(&pool)
+}
+
+/// The files with as few records and bytes as still differ.
+fn smaller_files(files: &Files, mut differs: impl FnMut(&Files) -> bool) -> Files {
+    let mut small = files.clone();
+    for file in [INTRINSIC, RUNTIME, OPCODES, TYPES, SLOTS, OBJECTS, PAYLOAD] {
+        let records: Vec<Vec<u8>> =
+            small.body[file].chunks(SIZES[file]).map(<[u8]>::to_vec).collect();
+        let base = small.clone();
+        let kept = shrunk(&records, |records| {
+            let mut files = base.clone();
+            files.body[file] = records.concat();
+            differs(&files)
+        });
+        small.body[file] = kept.concat();
+    }
+    small
+}
+
+fn store(files: &Files) -> String {
+    (OBJECTS..=PAYLOAD)
+        .map(|file| format!("\n  {} {}", NAMES[file], hex(&files.body[file])))
+        .collect()
 }
 
 fn tables(files: &Files) -> String {

@@ -31,6 +31,14 @@ impl Said {
         }
     }
 
+    /// How many marks a walk check gave.
+    pub fn marks(&self) -> usize {
+        match self {
+            Said::Walked(_, marks) => marks.len(),
+            _ => 0,
+        }
+    }
+
     pub fn shown(&self) -> String {
         match self {
             Said::Text(text) => String::from_utf8_lossy(text).into_owned(),
