@@ -44,14 +44,14 @@ module _ (ops : List ℕ) (pooled : Bool) (d : ℕ → Decoded) (len : ℕ) wher
 
     checking-done : (c′ : Check) {p′ : ℕ} → d i .outcome ≡ Outcome.Done → i < d i .instr .end → d i .instr .end ≤ len
         → c′ ≡ orElse check (tableCheck (jumpTable pooled (flowOf ops (d i .instr .opcode)) (d i .instr)) (d i .instr .offset))
-        → p′ ≡ place (p + place (lineRoom (d i .instr) (jumpTable pooled (flowOf ops (d i .instr .opcode)) (d i .instr)))) → Checking p′ c′ (d i .instr .end)
+        → p′ ≡ place (p + place (lineRoom (flowOf ops (d i .instr .opcode)) (d i .instr) (jumpTable pooled (flowOf ops (d i .instr .opcode)) (d i .instr)))) → Checking p′ c′ (d i .instr .end)
     unfolding linesRoom going-done
     checking-done c′ e low high is more =
         let g = s .going in
         let w = ap (linesRoom ops pooled) (going-instrs ops pooled d len g e) in
         record {
           going = going-done ops pooled d len g c′ e low high is;
-          done = s .done + lineRoom (d i .instr) (jumpTable pooled (flowOf ops (d i .instr .opcode)) (d i .instr));
+          done = s .done + lineRoom (flowOf ops (d i .instr .opcode)) (d i .instr) (jumpTable pooled (flowOf ops (d i .instr .opcode)) (d i .instr));
           is = omega (arith, s .is, more);
           whole = omega (arith, s .whole, w);
         }
@@ -66,8 +66,8 @@ module _ (ops : List ℕ) (pooled : Bool) (d : ℕ → Decoded) (len : ℕ) wher
 
       pub checked-done : (c′ : Check) {p′ : ℕ} → x .outcome ≡ Outcome.Done → i < x .instr .end → x .instr .end ≤ len
           → c′ ≡ orElse check (tableCheck (jumpTable pooled (flowOf ops (x .instr .opcode)) (x .instr)) (x .instr .offset))
-          → p′ ≡ place (p + place (lineRoom (x .instr) (jumpTable pooled (flowOf ops (x .instr .opcode)) (x .instr)))) → Checking p′ c′ (x .instr .end)
+          → p′ ≡ place (p + place (lineRoom (flowOf ops (x .instr .opcode)) (x .instr) (jumpTable pooled (flowOf ops (x .instr .opcode)) (x .instr)))) → Checking p′ c′ (x .instr .end)
       checked-done c′ {p′} =
           subst (λ (y : Decoded). y .outcome ≡ Outcome.Done → i < y .instr .end → y .instr .end ≤ len
           → c′ ≡ orElse check (tableCheck (jumpTable pooled (flowOf ops (y .instr .opcode)) (y .instr)) (y .instr .offset))
-          → p′ ≡ place (p + place (lineRoom (y .instr) (jumpTable pooled (flowOf ops (y .instr .opcode)) (y .instr)))) → Checking p′ c′ (y .instr .end)) (sym is) (checking-done c′)
+          → p′ ≡ place (p + place (lineRoom (flowOf ops (y .instr .opcode)) (y .instr) (jumpTable pooled (flowOf ops (y .instr .opcode)) (y .instr)))) → Checking p′ c′ (y .instr .end)) (sym is) (checking-done c′)

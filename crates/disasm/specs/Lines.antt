@@ -54,7 +54,7 @@ pub record Passed (v : View) (l : Listing) (o : List ℕ) (p : ℕ) (o′ : List
 -- a length that the lines are not longer than
 unfoldable pub linesRoom : List ℕ → Bool → List Instr → ℕ
 linesRoom ops pooled [] = 0
-linesRoom ops pooled (i ∷ is) = lineRoom i (jumpTable pooled (flowOf ops (i .opcode)) i) + linesRoom ops pooled is
+linesRoom ops pooled (i ∷ is) = let flow = flowOf ops (i .opcode) in lineRoom flow i (jumpTable pooled flow i) + linesRoom ops pooled is
 
 -- what a pass that writes nothing answers: the checks, and, where decoding came to the code's end, room for the lines and for 250 bytes, which
 -- the header has not

@@ -502,7 +502,7 @@ fn check_lines(
                 let flow = flow::flow_by(words::byte_at(flows, instr.opcode as usize));
                 let table = targets::jump_table(pool, flow, instr);
                 check = refusal::or_else(check, table_check(table, instr.offset));
-                p = text::plus(p, lines::line_room(instr, table));
+                p = text::plus(p, lines::line_room(flow, instr, table));
                 i = instr.end;
             }
         }

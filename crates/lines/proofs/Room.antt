@@ -1,6 +1,6 @@
 -- That no line is longer than its room. Assumes nothing.
 use Prim.Native.Nat.{ℕ, zero, suc, _+_, _-_, _*_, _/_, _≤_, min}
-use mathlib.Core.Bool.{Bool, true, false, cond}
+use mathlib.Core.Bool.{Bool, false, cond}
 use mathlib.Core.List.{List, [], _∷_, _++_}
 use native.Mathlib.Omega.{arith}
 use lib.Dec.{ltb, eqb}
@@ -15,21 +15,24 @@ use Rattle.tables.specs.declared.Frame.{Frame}
 use Rattle.tables.specs.Names.{nameAt, isZero}
 use Rattle.tables.specs.Texts.{runtimeName, intrinsicName}
 use Rattle.operand.specs.declared.Operand.{Operand}
-use Rattle.operand.specs.declared.Operand.the-variants as op
 use Rattle.decoder.specs.declared.Instr.{Instr}
+use Rattle.flow.specs.declared.Kind.{Kind}
 use Rattle.flow.specs.declared.Flow.{Flow}
 use Rattle.bytecode.specs.Texts.{NameFiles, paramName, regName, listName, operandText, instrName}
 use Rattle.serializer.specs.declared.Elem.{Elem}
-use Rattle.targets.specs.Targets.{operandOf, here, jumpTarget, jumpTable, entryAt}
+use Rattle.targets.specs.Targets.{operandOf, here, distanceBy, targetFrom, targetBack, targetBy, jumpTarget, jumpTable, entryAt}
+use Rattle.targets.specs.declared.Number.{Number}
 use Rattle.targets.specs.declared.Target.{Target}
-use Rattle.targets.specs.declared.Target.the-variants as target
 use Rattle.targets.specs.declared.Entries.{Entries}
 use Rattle.targets.specs.declared.Table.{Table}
-use Rattle.targets.specs.declared.Table.the-variants as table
 use Rattle.targets.specs.declared.Entry.{Entry}
-use Rattle.targets.specs.declared.Entry.the-variants as entry
 use Rattle.lines.specs.Line.{View, before, operandsBy, targetText, entryText, shownAfter, entriesFrom, tableText, bytesOf, placeText, lineBy}
-use Rattle.lines.specs.Room.{entriesOf, lineRoom}
+use Rattle.lines.specs.Room.{entriesOf, targetRoom, lineRoom}
+use Rattle.operand.specs.declared.Operand.the-variants as op
+use Rattle.flow.specs.declared.Kind.the-variants as kind
+use Rattle.targets.specs.declared.Target.the-variants as target
+use Rattle.targets.specs.declared.Table.the-variants as table
+use Rattle.targets.specs.declared.Entry.the-variants as entry
 
 -- ---- numbers, bytes and names
 
@@ -106,9 +109,17 @@ module _ (frame : Frame) (params : ℤ) where
 
 -- ---- the target and the entries
 
-target-room : (t : Target) → length (targetText t) ≤ 30
-target-room (target.At t) = simp length-append (omega (arith, digits-few t))
-target-room target.Nothing = omega arith
+some-target : (t : Target) → length (targetText t) ≤ 30
+some-target (target.At t) = simp length-append (omega (arith, digits-few t))
+some-target target.Nothing = omega arith
+
+target-room : (k : Kind) (at : ℕ) (d : Number) → length (targetText (targetBy k at d)) ≤ targetRoom k
+target-room kind.On at d = omega arith
+target-room kind.Ends at d = omega arith
+target-room kind.Jumps at d = some-target (targetFrom at d)
+target-room kind.Branches at d = some-target (targetFrom at d)
+target-room kind.JumpsBack at d = some-target (targetBack at d)
+target-room kind.Switch at d = omega arith
 
 entry-room : (shown : Bool) (e : Entry) → length (entryText shown e) ≤ 46
 entry-room shown (entry.Shown case t) =
@@ -135,14 +146,14 @@ place-room code i =
     simp (length-append, length-replicate)
     (omega (arith, digits-few (i .offset), hex-room (bytesOf code i), length-take (i .end - i .offset) (drop (i .offset) code)))
 
-pub line-room : (v : View) (flow : Flow) (i : Instr) → length (lineBy v flow i) ≤ lineRoom i (jumpTable (v .pooled) flow i)
-unfolding lineRoom lineBy
+pub line-room : (v : View) (flow : Flow) (i : Instr) → length (lineBy v flow i) ≤ lineRoom flow i (jumpTable (v .pooled) flow i)
+unfolding lineRoom lineBy jumpTarget
 line-room v flow i =
     simp length-append (omega (
       arith,
       simp length-append at (place-room (v .code) i),
       instr-room (v .opcodes) (i .opcode) (i .scale),
       operands-room (v .frame) (v .params) (v .names) i 0 (min (i .count) 8),
-      target-room (jumpTarget (v .elem) flow i),
+      target-room (flow .kind) (here i) (distanceBy (v .elem) (flow .pool) (operandOf i (flow .first))),
       table-room (v .elem) (here i) (jumpTable (v .pooled) flow i),
     ))

@@ -1,6 +1,7 @@
 // One line of the listing, written into a lent part of the listing buffer.
 use decoder::Instr;
 use flow::Flow;
+use flow::Kind;
 use tables::Frame;
 use targets::Entries;
 use targets::Entry;
@@ -14,7 +15,7 @@ ghost use Rattle.laws.specs.Ascii.{ascii};
 ghost use Prim.Native.Nat.{_-_, min};
 ghost use Rattle.text.specs.Put.{Put, place};
 ghost use Rattle.targets.specs.Targets.{poolSearched, found};
-ghost use Rattle.lines.specs.Room.{entriesOf, lineRoom};
+ghost use Rattle.lines.specs.Room.{entriesOf, targetRoom, lineRoom};
 ghost use Rattle.lines.specs.Line.{View, before, operandsBy, placeText, targetText, entryText, shownAfter, entriesFrom, tableText, lineBy};
 
 // A line, from the start of the buffer it is lent: offset, bytes, name, operands, target and entries.
@@ -47,16 +48,31 @@ pub fn put_line(
     text::put_byte(out, p, b'\n')
 }
 
-// A length that no line of this instruction and table is longer than.
-pub fn line_room(instr: Instr, table: Table) -> usize
-    ensures { λ r. ⌜ r ≡ place (lineRoom instr table) ⌝ }
+// A length that no line of this flow, instruction and table is longer than.
+pub fn line_room(flow: Flow, instr: Instr, table: Table) -> usize
+    ensures { λ r. ⌜ r ≡ place (lineRoom flow instr table) ⌝ }
 {
+    let kind = flow.kind;
     let count = text::least(instr.count, 8);
     let size = size_of(instr);
-    let p = 150 + 72 * count + 46 * entries_of(table) as usize;
+    let p = 110 + target_room(kind) as usize + 72 * count + 46 * entries_of(table) as usize;
     let p = text::plus(p, size);
     let p = text::plus(p, size);
     text::plus(p, size)
+}
+
+// The room for a target.
+fn target_room(kind: Kind) -> u8
+    ensures { λ r. ⌜ r ≡ targetRoom kind ⌝ }
+{
+    match kind {
+        Kind::On => 0,
+        Kind::Ends => 0,
+        Kind::Switch => 0,
+        Kind::Jumps => 30,
+        Kind::Branches => 30,
+        Kind::JumpsBack => 30,
+    }
 }
 
 // How many entries a table has.

@@ -98,7 +98,7 @@ loop-again c =
     let f = flow-is (c .before .before .before .before .before) in
     let t = c .before .before .before .before .jump-table .ensures ∙ ap (λ (z : Flow). jumpTable (found (a .pool)) z (x .instr)) f in
     let k = c .before .before .or-else .ensures ∙ ap (orElse (l .check)) (c .before .before .before .table-check .ensures ∙ ap (λ (z : Table). tableCheck z (x .instr .offset)) t) in
-    let m = c .plus .ensures ∙ ap (λ (n : ℕ). place (l .p + n)) (c .before .line-room .ensures ∙ ap (λ (z : Table). place (lineRoom (x .instr) z)) t) in
+    let m = c .plus .ensures ∙ ap (λ (n : ℕ). place (l .p + n)) (c .before .line-room .ensures ∙ ap (λ (z : Flow). place (lineRoom z (x .instr) (c .before .before .before .before .jump-table .result))) f ∙ ap (λ (z : Table). place (lineRoom (flowOf (now (a .opcodes)) (x .instr .opcode)) (x .instr) z)) t) in
     checked-done _ _ _ _ (l .inv) x (c .before .before .before .before .before .before .before .before .before .before .before .decode-at .ensures) (c .before .before .or-else .result) (c .before .before .before .before .before .before .before .before .enum-told2 .given .1) (q .0) (q .1) k m
 
 returns-3 : tie.Need-returns-3 Inv-loop μ-loop

@@ -10,23 +10,32 @@ least-requires c κs = search needs
 size-of-requires : tie.Need-size-of-requires
 size-of-requires c κs = search needs
 
-mul-p : tie.Need-mul-p
-mul-p c = search needs
-
-add-p : tie.Need-add-p
-add-p c = search needs
-
-entries-of-requires : tie.Need-entries-of-requires
-entries-of-requires c κs = search needs
+target-room-requires : tie.Need-target-room-requires
+target-room-requires c κs = search needs
 
 cast-p : tie.Need-cast-p
 cast-p c = search needs
 
-mul-p-2 : tie.Need-mul-p-2
-mul-p-2 c = search needs
+add-p : tie.Need-add-p
+add-p c = search needs
+
+mul-p : tie.Need-mul-p
+mul-p c = search needs
 
 add-p-2 : tie.Need-add-p-2
 add-p-2 c = search needs
+
+entries-of-requires : tie.Need-entries-of-requires
+entries-of-requires c κs = search needs
+
+cast-p-2 : tie.Need-cast-p-2
+cast-p-2 c = search needs
+
+mul-p-2 : tie.Need-mul-p-2
+mul-p-2 c = search needs
+
+add-p-3 : tie.Need-add-p-3
+add-p-3 c = search needs
 
 plus-requires : tie.Need-plus-requires
 plus-requires c κs = search needs
@@ -42,8 +51,9 @@ unfolding lineRoom
 returns c =
     omega (
       arith,
-      c .before .before .before .before .before .least .ensures,
-      c .before .before .before .before .size-of .ensures,
+      c .before .before .before .before .before .before .least .ensures,
+      c .before .before .before .before .before .size-of .ensures,
+      c .before .before .before .before .target-room .ensures,
       c .before .before .before .entries-of .ensures,
       c .before .before .plus .ensures,
       c .before .plus2 .ensures,
@@ -56,12 +66,15 @@ line-room-spec =
     (tie.spec
     least-requires
     size-of-requires
-    mul-p
-    add-p
-    entries-of-requires
+    target-room-requires
     cast-p
-    mul-p-2
+    add-p
+    mul-p
     add-p-2
+    entries-of-requires
+    cast-p-2
+    mul-p-2
+    add-p-3
     plus-requires
     plus-requires-2
     plus-requires-3
