@@ -92,8 +92,7 @@ fn put_place(out: &mut [u8], code: &[u8], instr: Instr) -> usize
 {
     let start = instr.offset;
     let bytes = serializer::lent(code, start, size_of(instr));
-    let p = text::put_spaces(out, 0, 10);
-    let p = text::put_bytes(out, p, b" @ ");
+    let p = text::put_bytes(out, 0, b"           @ ");
     let p = text::put_decimal_padded(out, p, start as u64, 4);
     let p = text::put_bytes(out, p, b" : ");
     let p = text::put_hex_padded(out, p, bytes, 18);

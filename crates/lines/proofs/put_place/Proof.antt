@@ -10,9 +10,6 @@ size-of-requires c κs = search needs
 lent-requires : tie.Need-lent-requires
 lent-requires c κs = search needs
 
-put-spaces-requires : tie.Need-put-spaces-requires
-put-spaces-requires c κs = search needs
-
 slice-aggregate-put-bytes : tie.Need-slice-aggregate-put-bytes
 slice-aggregate-put-bytes c = search needs
 
@@ -39,11 +36,10 @@ same-length c = search needs
 
 returns : tie.Need-returns
 returns c =
-    let s = c .before .before .before .before .before .before .before .before .before .before .before .before .before .before .before .before .before .before .before .before .before .before .before .before .before .before .before .before .before .before in
-    let h = s .good in
-    rw (← c .before .before .before .before .before .before .before .before .before .before .before .before .before .before .before .before .before .before .before .before .before .before .before .before .before .before .before .size-of .ensures, ← c .before .before .before .before .before .before .before .before .before .before .before .before .before .before .before .before .before .before .before .before .before .before .before .before .before .before .lent .ensures)
-    (then (omega (arith, h)) (then (omega (arith, h)) (then (omega (arith, h)) (then (omega (arith, h)) (then (omega (arith, h))
-    (c .before .before .before .before .before .before .before .before .before .before .before .before .before .before .before .before .before .before .before .before .before .before .before .before .put-spaces .ensures) (c .before .before .before .before .before .before .before .before .before .before .before .before .before .before .before .before .before .before .before .put-bytes .ensures)) (c .before .before .before .before .before .before .before .before .before .before .before .before .before .before .before .put-decimal-padded .ensures)) (c .before .before .before .before .before .before .before .before .before .before .put-bytes2 .ensures)) (c .before .before .before .before .before .before .put-hex-padded .ensures)) (c .before .before .put-byte .ensures))
+    let h = c .before .before .before .before .before .before .before .before .before .before .before .before .before .before .before .before .before .before .before .before .before .before .before .before .before .before .good in
+    rw (← c .before .before .before .before .before .before .before .before .before .before .before .before .before .before .before .before .before .before .before .before .before .before .before .size-of .ensures, ← c .before .before .before .before .before .before .before .before .before .before .before .before .before .before .before .before .before .before .before .before .before .before .lent .ensures)
+    (then (omega (arith, h)) (then (omega (arith, h)) (then (omega (arith, h)) (then (omega (arith, h))
+    (c .before .before .before .before .before .before .before .before .before .before .before .before .before .before .before .before .before .before .before .put-bytes .ensures) (c .before .before .before .before .before .before .before .before .before .before .before .before .before .before .before .put-decimal-padded .ensures)) (c .before .before .before .before .before .before .before .before .before .before .put-bytes2 .ensures)) (c .before .before .before .before .before .before .put-hex-padded .ensures)) (c .before .before .put-byte .ensures))
 
 pub put-place-spec : {M : Type 1} → statement M
 put-place-spec =
@@ -51,7 +47,6 @@ put-place-spec =
     (tie.spec
     size-of-requires
     lent-requires
-    put-spaces-requires
     slice-aggregate-put-bytes
     put-bytes-requires
     put-decimal-padded-requires
