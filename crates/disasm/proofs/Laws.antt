@@ -8,9 +8,9 @@ use types.Run.{OneOf, miss}
 use denote.Enum.Declared.{tagOf}
 use lib.ListN.{length, length-append}
 use Rattle.refusal.specs.declared.Refusal.{Refusal}
-use Rattle.refusal.specs.declared.Check.{Check}
 use Rattle.refusal.specs.declared.Check.the-variants.{Ok, Refused}
-use Rattle.refusal.specs.Check.{refusalAt, orElse}
+use Rattle.refusal.specs.Check.{refusalAt}
+use Rattle.refusal.proofs.Laws.{or-left}
 use Rattle.text.proofs.Put.{fits, fits-then, refused-then}
 use Rattle.text.proofs.Texts.{digits-few}
 use Rattle.store.specs.declared.SlotValue.{SlotValue}
@@ -42,10 +42,6 @@ none-of : (u : List ℕ) → length u ≡ 0 → u ≡ []
 none-of [] h = refl
 none-of (x ∷ u) h = absurd (omega arith)
 
-or-first : (a b : Check) → orElse a b ≡ Ok → a ≡ Ok
-or-first Ok b h = refl
-or-first (Refused r) b h = h
-
 -- ---- room
 
 pub lines-room : (v : View) (is : List Instr) → length (linesText v is) ≤ linesRoom (v .opcodes) (v .pooled) is
@@ -71,7 +67,7 @@ module _ (v : View) (h : Header) (l : Listing) (o : List ℕ) {m : Pass} (c : Ch
       → ListedAs (listView v h l o) (listed-as.Done (n .place)) o′
   unfolding listView
   check-fits small ok room w =
-      let fine = or-first (codeCheck (l .outcome)) _ (sym (c .checked) ∙ ok) in
+      let fine = or-left (codeCheck (l .outcome)) _ (sym (c .checked) ∙ ok) in
       let f : length (headerText h ++ linesText v (l .instrs)) ≤ length o =
       rw length-append (omega (arith, c .room fine, header-room h, lines-room v (l .instrs))) in
       let p = w .written fine in
@@ -89,7 +85,7 @@ module _ (v : View) (h : Header) (l : Listing) (o : List ℕ) (small : length o 
 
   module _ (ok : m .check ≡ Ok) where
     fine : codeCheck (l .outcome) ≡ Ok
-    fine = or-first (codeCheck (l .outcome)) _ (sym (w .checked) ∙ ok)
+    fine = or-left (codeCheck (l .outcome)) _ (sym (w .checked) ∙ ok)
 
     pub pass-short : length (u ++ o) < m .place → ListedAs (listView v h l o) (listed-as.Refused (refusalAt 17 0)) (u ++ o)
     unfolding listView

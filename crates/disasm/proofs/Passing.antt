@@ -1,6 +1,6 @@
 -- A pass over the instructions of a code: what holds at each of them, and what its end says. Assumes nothing.
 use Prim.Native.Nat.{ℕ, suc, _+_, _-_, _<_, _≤_, _^_}
-use mathlib.Core.Path.{_≡_, refl, sym, ap, subst, _∙_}
+use mathlib.Core.Path.{_≡_, sym, ap, subst, _∙_}
 use mathlib.Core.Bool.{Bool}
 use mathlib.Core.List.{List, [], _∷_}
 use native.Mathlib.Omega.{arith}
@@ -9,6 +9,7 @@ use Rattle.refusal.specs.declared.Refusal.{Refusal}
 use Rattle.refusal.specs.declared.Check.{Check}
 use Rattle.refusal.specs.declared.Check.the-variants.{Ok, Refused}
 use Rattle.refusal.specs.Check.{orElse}
+use Rattle.refusal.proofs.Laws.{never, or-none, or-assoc}
 use Rattle.text.specs.Put.{Put, place}
 use Rattle.decoder.specs.declared.Outcome.{Outcome}
 use Rattle.decoder.specs.declared.Decoded.{Decoded}
@@ -22,14 +23,6 @@ use Rattle.targets.specs.Targets.{jumpTable, found, poolSearched}
 use Rattle.lines.specs.Line.{View, lineText}
 use Rattle.lines.proofs.Written.{Written, written-none, written-more, written-all, written-kept}
 use Rattle.disasm.specs.Lines.{linesText, tableCheck, switchCheck, codeCheck, listingCheck, Passed}
-
-pub or-none : (a : Check) → orElse a Ok ≡ a
-or-none Ok = refl
-or-none (Refused r) = refl
-
-pub or-assoc : (a b c : Check) → orElse (orElse a b) c ≡ orElse a (orElse b c)
-or-assoc Ok b c = refl
-or-assoc (Refused r) b c = refl
 
 module _ (d : ℕ → Decoded) (len : ℕ) where
   abbrev pub allOf : Listing
@@ -59,9 +52,6 @@ module _ (ops : List ℕ) (pooled : Bool) (d : ℕ → Decoded) (len : ℕ) wher
     going-refused r e =
         let f = s .outcome ∙ ap (λ (l : Listing). l .outcome) (rest-is (list-refused d (len - s .passed) i r e)) in
         (sym (ap (λ (x : Outcome). orElse (codeCheck x) (switchCheck ops pooled (allOf d len .instrs))) f), λ ok. never r (sym (ap codeCheck f) ∙ ok))
-      where
-        never : (r : Refusal) → Refused r ≡ Ok → ⊥
-        never r e = let z : _≡_ {A = ℕ} 0 1 = cc in omega arith
 
     pub going-end : d i .outcome ≡ Outcome.End → (check ≡ listingCheck ops pooled (allOf d len)) × (restOf d len (s .passed) i .instrs ≡ [])
     unfolding switchCheck

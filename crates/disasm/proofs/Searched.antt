@@ -9,9 +9,9 @@ use borrow.Author.Tests.{eqb-true}
 use lib.ListN.{length, take, drop}
 use Rattle.laws.proofs.Tests.{under?}
 use Rattle.words.proofs.Le.{leAt-past}
-use Rattle.refusal.specs.declared.Check.{Check}
-use Rattle.refusal.specs.declared.Check.the-variants.{Ok, Refused}
+use Rattle.refusal.specs.declared.Check.the-variants.{Ok}
 use Rattle.refusal.specs.Check.{orElse, unlessGood, firstBad}
+use Rattle.refusal.proofs.Laws.{or-left, or-right, good-is}
 use Rattle.store.specs.declared.Object.{Object}
 use Rattle.store.specs.Records.{objectOf, objectCount, slotCount}
 use Rattle.store.specs.Check.{sizesOk, badObject, badSlot, checkStore, Ordered}
@@ -35,19 +35,6 @@ use Rattle.serializer.specs.declared.SlotAt.the-variants as slot-at
 use Rattle.store.specs.declared.SlotValue.the-variants as value
 use Rattle.header.specs.declared.HeaderAt.the-variants as header-at
 use Rattle.targets.specs.declared.Pool.the-variants as pool
-
--- the parts of a check that found nothing
-pub or-left : (a b : Check) → orElse a b ≡ Ok → a ≡ Ok
-or-left Ok b h = refl
-or-left (Refused r) b h = h
-
-pub or-right : (a b : Check) → orElse a b ≡ Ok → b ≡ Ok
-or-right Ok b h = h
-or-right (Refused r) b h = let z : _≡_ {A = ℕ} 0 1 = cc in absurd (omega arith)
-
-good-is : (b : Bool) (n : ℕ) → unlessGood b n ≡ Ok → b ≡ true
-good-is true n h = refl
-good-is false n h = let z : _≡_ {A = ℕ} 0 1 = cc in absurd (omega arith)
 
 first-of : (a b c d e : Bool) → (a && b && c && d && e) ≡ true → a ≡ true
 first-of true b c d e h = refl

@@ -1,14 +1,13 @@
 -- On a store that passes its check the search changes nothing: what is read by the search is what is read by the walk over all slots.
 -- Assumes nothing.
 use Prim.Native.Nat.{ℕ}
-use mathlib.Core.Path.{_≡_, refl, sym, ap, _∙_}
+use mathlib.Core.Path.{_≡_, sym, ap, _∙_}
 use mathlib.Core.Bool.{Bool}
 use mathlib.Core.List.{List}
-use native.Mathlib.Omega.{arith}
 use borrow.Author.Tests.{lt-ltb}
 use Rattle.refusal.specs.declared.Check.{Check}
-use Rattle.refusal.specs.declared.Check.the-variants.{Ok, Refused}
-use Rattle.refusal.specs.Check.{orElse}
+use Rattle.refusal.specs.declared.Check.the-variants.{Ok}
+use Rattle.refusal.proofs.Laws.{or-left, or-right}
 use Rattle.store.specs.declared.Object.{Object}
 use Rattle.store.specs.Records.{objectOf, objectCount}
 use Rattle.store.specs.Check.{checkStore, checkCodeObject, Ordered}
@@ -38,15 +37,11 @@ pub header-searched : (s payload : List ℕ) (o : Object) (l : Layout) → Order
 header-searched s payload o l ordered =
     ap (λ (raw : ℕ → ℕ → RawAt). headerBy payload raw (rtFor s o l) l) (reader-searched s (o .first) (o .count) ordered (l .«tagged_size»))
 
-both-ok : (a b : Check) → orElse a b ≡ Ok → (a ≡ Ok) × (b ≡ Ok)
-both-ok Ok b h = (refl, h)
-both-ok (Refused r) b h = let z : _≡_ {A = ℕ} 0 1 = cc in absurd (omega arith)
-
 -- a BytecodeArray that is there is an object that is there
 pub code-checked : (o s p : List ℕ) (k : ℕ) → checkCode o s p k ≡ Ok → checkAt o s p k ≡ Ok
 code-checked o s p k ok =
-    let both = both-ok (checkStore o s p) (checkCodeObject o k) ok in
-    rw (both .0, lt-ltb k (objectCount o) (good-code-object o k (both .1) .0))
+    let object = or-right (checkStore o s p) (checkCodeObject o k) ok in
+    rw (or-left (checkStore o s p) (checkCodeObject o k) ok, lt-ltb k (objectCount o) (good-code-object o k object .0))
 
 -- from a function's answer x to the check: its slots are in order
 pub code-ordered : (o s p : List ℕ) (k : ℕ) {x : Check} → x ≡ checkCode o s p k → x ≡ Ok → Ordered s (objectOf o k .first) (objectOf o k .count)

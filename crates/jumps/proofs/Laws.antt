@@ -13,7 +13,8 @@ use Rattle.bytecode.specs.Decode.{checkCode}
 use Rattle.targets.specs.declared.Pool.{Pool}
 use Rattle.targets.specs.Targets.{poolElem, poolSearched}
 use Rattle.disasm.specs.Listing.{Files, poolBy}
-use Rattle.disasm.proofs.Searched.{or-left, or-right, ordered, pool-elems}
+use Rattle.refusal.proofs.Laws.{or-left, or-right}
+use Rattle.disasm.proofs.Searched.{ordered, pool-elems}
 use Rattle.jumps.specs.declared.Owner.{Owner}
 use Rattle.jumps.specs.Jumps.{checkOwner, checkLent, ownerPool, ownerFound, ownerElem}
 use Rattle.jumps.specs.declared.Owner.the-variants as owner

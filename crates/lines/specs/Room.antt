@@ -5,7 +5,6 @@ use Rattle.decoder.specs.declared.Instr.{Instr}
 use Rattle.flow.specs.declared.Kind.{Kind}
 use Rattle.flow.specs.declared.Kind.the-variants.{On, Ends, Jumps, Branches, JumpsBack, Switch}
 use Rattle.flow.specs.declared.Flow.{Flow}
-use Rattle.targets.specs.declared.Entries.{Entries}
 use Rattle.targets.specs.declared.Table.{Table}
 use Rattle.targets.specs.declared.Table.the-variants as table
 

@@ -1,18 +1,19 @@
 -- The listing within the limit; what is shown, and that a buffer of 64 bytes has room for it. Assumes nothing.
-use Prim.Native.Nat.{ℕ, zero, suc, _/_, _<_, _≤_, _^_}
+use Prim.Native.Nat.{ℕ, _<_, _≤_, _^_}
 use mathlib.Core.Path.{_≡_, refl, sym, ap, subst, _∙_}
 use mathlib.Core.Bool.{Bool, true, false, cond}
 use mathlib.Core.List.{List, _++_}
 use native.Mathlib.Omega.{arith}
 use native.Mathlib.Decide.{decLe}
 use borrow.Author.Tests.{le-leb, lt-leb}
-use lib.Dec.{leb, ltb}
+use lib.Dec.{leb}
 use lib.ListN.{length, drop, replicate, length-append, length-replicate}
 use lib.Seq.{take-append-seam, drop-append-seam}
 use Rattle.refusal.specs.declared.Refusal.{Refusal}
 use Rattle.refusal.specs.declared.Check.{Check}
 use Rattle.refusal.specs.declared.Check.the-variants.{Ok, Refused}
 use Rattle.refusal.specs.Check.{refusalAt, orElse, unlessGood}
+use Rattle.refusal.proofs.Laws.{or-assoc}
 use Rattle.text.specs.Put.{Put}
 use Rattle.text.proofs.Put.{kept, fits}
 use Rattle.text.proofs.Texts.{digits-few}
@@ -151,11 +152,7 @@ walk-within f M h =
     let t = checkTable (f .opcodes) (f .types) (f .runtime) (f .intrinsic) (f .layout) in
     let b = orElse (checkStore (f .objects) (f .slots) (f .payload)) (checkCodeObject (f .objects) 0) in
     let x = walkSource (objectSource f 0) M in
-    rw (h, or-of-or t b (headerCheck (headerAt f 0))) (walk-once t (orElse b (headerCheck (headerAt f 0))) M x)
-  where
-    or-of-or : (a b c : Check) → orElse (orElse a b) c ≡ orElse a (orElse b c)
-    or-of-or Ok b c = refl
-    or-of-or (Refused r) b c = refl
+    rw (h, or-assoc t b (headerCheck (headerAt f 0))) (walk-once t (orElse b (headerCheck (headerAt f 0))) M x)
 
 -- the answer depends on how many marks there are, not on what they are
 unless-blind : (c c′ : Check) (M M′ : List ℕ) (x x′ : Walked × List ℕ) → c ≡ c′ → x .0 ≡ x′ .0 → walk.unless c M x .0 ≡ walk.unless c′ M′ x′ .0

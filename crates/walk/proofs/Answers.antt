@@ -1,7 +1,6 @@
 -- From what the search answers to the call's equation, and from the equation to demand 3. Assumes nothing.
 use Prim.Native.Nat.{ℕ, zero, suc, _<_, _≤_}
 use mathlib.Core.Path.{_≡_, refl, sym, ap, subst, _∙_}
-use mathlib.Core.Bool.{Bool, true, false}
 use mathlib.Core.List.{List, [], _++_, append-nil}
 use native.Mathlib.Omega.{arith}
 use borrow.Author.Tests.{lt-ltb, le-ltb, le-leb, lt-leb, ltb-true}
@@ -15,7 +14,7 @@ use Rattle.decoder.specs.declared.Outcome.{Outcome}
 use Rattle.decoder.specs.declared.Decoded.{Decoded}
 use Rattle.decoder.specs.Listed.{listOn, listFrom, decodes}
 use Rattle.disasm.specs.Lines.{codeCheck, listingCheck}
-use Rattle.disasm.proofs.Searched.{or-left, or-right}
+use Rattle.refusal.proofs.Laws.{never, or-left, or-right, good-is}
 use Rattle.graph.specs.Graph.{Finding, Claim, finding, markList}
 use Rattle.graph.specs.Graph.Finding.{closed, leaves}
 use Rattle.graph.specs.Right.{Answer}
@@ -30,9 +29,6 @@ use Rattle.walk.specs.declared.Walked.the-variants as walked
 use Rattle.walk.specs.Walk.{answer, roomCheck, walkCheck, walkFound, unless, walkSource, WalkedAs, Promise}
 use Rattle.walk.specs.Search.{Answered}
 
-never : {A : Type 0} (r : Refusal) → Refused r ≡ Ok → A
-never r e = let z : _≡_ {A = ℕ} 0 1 = cc in absurd (omega arith)
-
 -- a listing that no fault ended came to the code's end
 list-ends : (d : ℕ → Decoded) (f at : ℕ) → codeCheck (listFrom d f at .outcome) ≡ Ok → listFrom d f at .outcome ≡ Outcome.End
 unfolding listFrom
@@ -45,10 +41,6 @@ list-ends d (suc f) at ok = go (d at .outcome) ok (list-ends d f (d at .instr .e
     go Outcome.End ok rest = refl
     go (Outcome.Refused r) ok rest = never r ok
     go Outcome.Done ok rest = rest ok
-
-pub good-is : (b : Bool) (n : ℕ) → unlessGood b n ≡ Ok → b ≡ true
-good-is true n h = refl
-good-is false n h = never (refusalAt n 0) h
 
 -- of no marks none are left over
 no-rest : (n : ℕ) (l : List ℕ) → l ++ drop n [] ≡ l

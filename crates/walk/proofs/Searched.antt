@@ -32,7 +32,8 @@ use Rattle.header.proofs.Searched.{header-searched}
 use Rattle.targets.specs.declared.Pool.{Pool}
 use Rattle.targets.specs.Targets.{poolSearched, found}
 use Rattle.disasm.specs.Listing.{Files, poolBy, poolOf, poolFound, checkFiles}
-use Rattle.disasm.proofs.Searched.{or-left, or-right, ordered, pool-elems}
+use Rattle.refusal.proofs.Laws.{or-left, or-right, good-is}
+use Rattle.disasm.proofs.Searched.{ordered, pool-elems}
 use Rattle.jumps.specs.declared.Owner.{Owner}
 use Rattle.bytecode.specs.Decode.{checkCode}
 use Rattle.jumps.specs.Jumps.{checkOwner, checkLent, ownerPool, ownerFound}
@@ -40,7 +41,6 @@ use Rattle.jumps.proofs.Laws.{lent-pool, lent-elems}
 use Rattle.walk.specs.declared.Walked.{Walked}
 use Rattle.walk.specs.Walk.{unless, walkSource, codeOf, headerCheck, headerAt, objectSource, walkCall, lentSource, walkLent}
 use Rattle.walk.specs.Search.{sourceBy, headerFound, walkSearched}
-use Rattle.walk.proofs.Answers.{good-is}
 
 -- ---- the code of a header is at most 65,536 bytes long
 abbrev Short : HeaderAt → Type 0

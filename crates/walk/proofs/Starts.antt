@@ -20,7 +20,7 @@ use Rattle.decoder.proofs.Listed.{list-done, list-end, list-refused}
 use Rattle.flow.specs.Flow.{flowOf}
 use Rattle.targets.specs.Targets.{jumpTable, found}
 use Rattle.disasm.specs.Lines.{tableCheck, switchCheck, codeCheck}
-use Rattle.disasm.proofs.Passing.{or-none, or-assoc}
+use Rattle.refusal.proofs.Laws.{or-none, or-assoc}
 use Rattle.graph.specs.Lists.{elem}
 use Rattle.graph.proofs.Queues.{zero-at, at-t, off-t}
 use Rattle.steps.specs.Steps.{offset}
