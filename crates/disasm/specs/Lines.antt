@@ -56,8 +56,8 @@ unfoldable pub linesRoom : List ℕ → Bool → List Instr → ℕ
 linesRoom ops pooled [] = 0
 linesRoom ops pooled (i ∷ is) = let flow = flowOf ops (i .opcode) in lineRoom flow i (jumpTable pooled flow i) + linesRoom ops pooled is
 
--- what a pass that writes nothing answers: the checks, and, where decoding came to the code's end, room for the lines and for 250 bytes, which
--- the header has not
+-- what a pass that writes nothing answers: the checks, and, where decoding came to the code's end, room for the lines and 250 bytes for the
+-- header, which has fewer
 pub record Checked (ops : List ℕ) (pooled : Bool) (l : Listing) (r : Pass) : Type 0 where
   pub checked : r .check ≡ listingCheck ops pooled l
   pub room : codeCheck (l .outcome) ≡ Ok → r .place ≡ place (250 + linesRoom ops pooled (l .instrs))

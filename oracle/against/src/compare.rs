@@ -302,7 +302,9 @@ impl Compare {
     fn difference(&mut self, what: String, files: &Files, room: usize) {
         let ours = self.ours.list(files, room).shown();
         let rust = self.rust.list(files, room).map_or("not comparable".into(), |rust| rust.shown());
-        self.told(format!("list, {what}\n  ours {ours}\n  rust {rust}") + &store(files) + &tables(files));
+        self.told(
+            format!("list, {what}\n  ours {ours}\n  rust {rust}") + &store(files) + &tables(files),
+        );
     }
 
     fn walk_difference(&mut self, what: String, files: &Files, room: usize) {
@@ -415,6 +417,15 @@ mod tests {
         assert_eq!(shrunk(&[1, 2], |_| false), [1, 2]);
         // Only whole parts of 5 can go.
         assert_eq!(shrunk(&items, |kept| kept.len() % 5 == 0 && kept.contains(&7)).len(), 5);
+    }
+
+    #[test]
+    fn files_made_small() {
+        let sample = oracle::sample::sample();
+        let small = smaller_files(&sample, |files| files.count(OPCODES) >= 2);
+        assert_eq!(small.count(OPCODES), 2);
+        let others = [INTRINSIC, RUNTIME, TYPES, SLOTS, OBJECTS, PAYLOAD];
+        assert!(others.iter().all(|file| small.body[*file].is_empty()));
     }
 
     /// The sides are told apart: with one byte of what the Rust is given changed, there is a difference, and it is small.
