@@ -26,9 +26,9 @@ paramName p = cond (eqZ p (pos 0)) (ascii "<this>") (ascii "a" ++ signedDecimal 
 -- The Rust's `reg_name`; V8: Register::ToString. Context and closure come before the sign of the index.
 unfoldable pub regName : Frame → ℤ → ℤ → List ℕ
 regName frame params index =
-    cond (negative index) (paramName (parameterIndex (frame .«param_base») (frame .«first_param») params index))
+    cond (eqZ index (frame .context)) (ascii "<context>")
     (cond (eqZ index (frame .closure)) (ascii "<closure>")
-    (cond (eqZ index (frame .context)) (ascii "<context>")
+    (cond (negative index) (paramName (parameterIndex (frame .«param_base») (frame .«first_param») params index))
     (ascii "r" ++ signedDecimal index)))
 
 -- a list by its first and its last register; V8: RegisterList, whose first and last are register 0 where it is empty
