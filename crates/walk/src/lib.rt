@@ -276,7 +276,8 @@ fn walk_in(
                     place: 0,
                 });
             }
-            if marks.len() < n {
+            let room = marks.len();
+            if room < n {
                 return Walked::Refused(Refusal {
                     number: 18,
                     place: 0,
