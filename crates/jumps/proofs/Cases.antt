@@ -20,7 +20,7 @@ use Rattle.tables.specs.Check.{wholeRecords, checkTable}
 use Rattle.operand.specs.Operand.{kinds, kindOf, ofKind, interpret, isList}
 use Rattle.decoder.specs.Instr.{headAt}
 use Rattle.decoder.specs.Decode.{partsFrom, readParts, decodeAt}
-use Rattle.cases.specs.Sample.{padded, opcode, typed, opcodes, types, four, fours, layout}
+use Rattle.sample.specs.Sample.{padded, opcode, typed, opcodes, types, four, fours, layout}
 use Rattle.flow.specs.Flow.{flowNames, flows, flowNumber, flowBy}
 use Rattle.targets.specs.Targets.{poolElem, operandOf, indexOf, numberOf, distanceBy, jumpTarget, jumpTable, tableBy, sizedBy}
 use Rattle.disasm.specs.Listing.{Files, poolBy}
