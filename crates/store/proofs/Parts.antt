@@ -2,7 +2,7 @@
 -- Assumes nothing.
 use Prim.Native.Nat.{ℕ, zero, suc, _+_, _-_, _*_, _/_, _<_, _≤_, min}
 use mathlib.Core.Path.{_≡_, refl, sym, _∙_}
-use mathlib.Core.Bool.{Bool, true, false, cond, _&&_, _||_}
+use mathlib.Core.Bool.{Bool, true, false, cond, _||_}
 use mathlib.Core.List.{List}
 use mathlib.Core.Logic.{_⊎_, inl, inr}
 use native.Mathlib.Omega.{arith}
@@ -70,23 +70,23 @@ none-lower o s n end {any} found l = sym (first-is (falls o s n) 0 end end (omeg
 module _ (s : List ℕ) (end : ℕ) where
   -- what is written down from slot k on
   pub record Filled (k : ℕ) (later : List ℕ) : Type 0 where
-    pub parts : length later ≡ 4096
+    pub room : end ≤ length later * 256
     pub at : (b : ℕ) → 0 < b → k ≤ b * 256 → b * 256 < end → getD later b 0 ≡ firstFrom (lower s) (b * 256) (end - b * 256)
 
-  pub filled-start : {later : List ℕ} → length later ≡ 4096 → Filled end later
-  filled-start e = record { parts = e; at = λ b z l m. absurd (omega arith) }
+  pub filled-start : {later : List ℕ} → end ≤ length later * 256 → Filled end later
+  filled-start e = record { room = e; at = λ b z l m. absurd (omega arith) }
 
-  pub filled-next : {later : List ℕ} (k : ℕ) {fall : ℕ} → 0 < k → k ≤ end → end ≤ 1048576 → fall ≡ firstFrom (lower s) (k - 1) (end - (k - 1)) → Filled k later → Filled (k - 1) (set later ((k - 1) / 256) fall)
-  filled-next {later} k {fall} z l few found f = record { parts = length-set later ((k - 1) / 256) fall ∙ f .parts; at = λ b y low m. go b y low m (same? b ((k - 1) / 256)) }
+  pub filled-next : {later : List ℕ} (k : ℕ) {fall : ℕ} → 0 < k → k ≤ end → fall ≡ firstFrom (lower s) (k - 1) (end - (k - 1)) → Filled k later → Filled (k - 1) (set later ((k - 1) / 256) fall)
+  filled-next {later} k {fall} z l found f = record { room = rw length-set (f .room); at = λ b y low m. go b y low m (same? b ((k - 1) / 256)) }
     where
       go : (b : ℕ) → 0 < b → k - 1 ≤ b * 256 → b * 256 < end → (b ≡ (k - 1) / 256) ⊎ (b ≡ (k - 1) / 256 → ⊥) → getD (set later ((k - 1) / 256) fall) b 0 ≡ firstFrom (lower s) (b * 256) (end - b * 256)
       go b y low m (inl e) =
           let h : b * 256 ≡ k - 1 = omega arith in
-          rw (h, e) (getD-set-same later ((k - 1) / 256) fall 0 (omega (arith, f .parts)) ∙ found)
+          rw (h, e) (getD-set-same later ((k - 1) / 256) fall 0 (omega (arith, f .room)) ∙ found)
       go b y low m (inr e) = getD-set-other later ((k - 1) / 256) b fall 0 e ∙ f .at b y (omega arith) m
 
   pub filled-all : {later : List ℕ} (k : ℕ) → k ≤ 256 → Filled k later → Later s end later
-  filled-all k l f = record { parts = f .parts; at = λ b z m. f .at b z (omega arith) m }
+  filled-all k l f = record { room = f .room; at = λ b z m. f .at b z (omega arith) m }
 
   -- the first lower index from slot k - 1 on
   pub lower-next : (k : ℕ) {here before found r : ℕ} → 0 < k → k ≤ end → here ≡ slotOf s (k - 1) .index → before ≡ slotOf s (k - 1 - 1) .index

@@ -1,6 +1,7 @@
 use Prim.Native.Nat.{_-_, _<_, _≤_}
-use mathlib.Core.Path.{_≡_, sym}
+use mathlib.Core.Path.{_≡_, refl, sym}
 use native.Mathlib.Omega.{arith}
+use lib.ListN.{length, length-set}
 use denote.Ref.{now}
 use borrow.Author.Needs.{needs}
 use Rattle.laws.specs.Scan.{firstFrom}
@@ -13,7 +14,7 @@ use Rattle.store.proofs.find_falls.Tie as tie
 
 abbrev Inv-loop : tie.InvT-loop
 Inv-loop slots later₀ end k₀ fall₀ here₀ later k fall here =
-    (0 < k) × (k ≤ end) × (here ≡ slotOf slots (k - 1) .index) × (fall ≡ firstFrom (lower slots) k (end - k)) × Filled slots end k later
+    (0 < k) × (k ≤ end) × (here ≡ slotOf slots (k - 1) .index) × (fall ≡ firstFrom (lower slots) k (end - k)) × Filled slots end k later × (length later ≡ length later₀)
 
 abbrev μ-loop : tie.MeasureT-loop
 μ-loop slots later₀ end k₀ fall₀ here₀ later k fall here = k
@@ -27,7 +28,7 @@ slot-index-requires c κs = search needs
 loop-holds : tie.Need-loop-holds Inv-loop μ-loop
 loop-holds c =
     let a = c .before .before .before .args in
-    (omega arith, omega arith, c .slot-index .ensures, sym (first-end (lower (now (a .slots))) (a .end) (a .end) (omega arith)), filled-start (now (a .slots)) (a .end) (omega arith))
+    (omega arith, omega arith, c .slot-index .ensures, sym (first-end (lower (now (a .slots))) (a .end) (a .end) (omega arith)), filled-start (now (a .slots)) (a .end) (omega arith), refl)
 
 sub-k : tie.Need-sub-k Inv-loop μ-loop
 sub-k c = search needs
@@ -67,10 +68,10 @@ loop-again : tie.Need-loop-again Inv-loop μ-loop
 loop-again c =
     let a = c .before .before .before .before .before .before .before .args in
     let l = c .before .before .before .loop in
-    (omega arith, omega arith, c .before .slot-index2 .ensures, found c, filled-next (now (a .slots)) (a .end) (l .k) (omega arith) (omega arith) (omega arith) (found c) (l .inv .4))
+    (omega arith, omega arith, c .before .slot-index2 .ensures, found c, filled-next (now (a .slots)) (a .end) (l .k) (omega arith) (omega arith) (found c) (l .inv .4), simp length-set (l .inv .5))
 
 same-length : tie.Need-same-length Inv-loop μ-loop
-same-length c = omega (arith, c .before .loop .inv .4 .parts)
+same-length c = c .before .loop .inv .5
 
 returns : tie.Need-returns Inv-loop μ-loop
 returns c =
