@@ -77,7 +77,8 @@ fn read_at(slots: &[u8], at: usize) -> Read
 fn next_at(slots: &[u8], at: usize) -> usize
     ensures { λ r. ⌜ r ≡ nextAt (now (slots .entry)) at ⌝ }
 {
-    if at < store::slot_count(slots) {
+    let count = store::slot_count(slots);
+    if at < count {
         at + 1
     } else {
         at
