@@ -78,9 +78,5 @@ fn next_at(slots: &[u8], at: usize) -> usize
     ensures { λ r. ⌜ r ≡ nextAt (now (slots .entry)) at ⌝ }
 {
     let count = store::slot_count(slots);
-    if at < count {
-        at + 1
-    } else {
-        at
-    }
+    if at < count { at + 1 } else { at }
 }
