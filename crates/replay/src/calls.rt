@@ -82,7 +82,7 @@ fn store_check(bytes: &[u8], files: Files, call: &[u8]) -> bool {
     said::is_check(call, store::check_store(objects, slots, payload))
 }
 
-// The answer of raw_run_at, and what raw_at lends.
+// What raw_at answers, and what it lends.
 fn raw_at(bytes: &[u8], files: Files, call: &[u8]) -> bool {
     let objects = file(bytes, files, OBJECTS);
     let slots = file(bytes, files, SLOTS);
@@ -91,7 +91,7 @@ fn raw_at(bytes: &[u8], files: Files, call: &[u8]) -> bool {
     let object = words::u64_at(call, 0) as usize;
     let off = words::u64_at(call, 8);
     let len = words::u64_at(call, 16);
-    let part = serializer::raw_at(objects, slots, payload, ts, object, off, len);
+    let part = serializer::raw_part_at(objects, slots, payload, ts, object, off, len);
     let answer = serializer::raw_run_at(objects, slots, payload, ts, object, off, len);
     is_raw(behind(call, 24), answer, part, payload, len)
 }
