@@ -15,7 +15,7 @@ use Rattle.refusal.specs.declared.Check.the-variants.{Ok, Refused}
 use Rattle.refusal.specs.Check.{refusalAt, orElse, unlessGood}
 use Rattle.refusal.proofs.Laws.{or-assoc}
 use Rattle.text.specs.Put.{Put}
-use Rattle.text.proofs.Put.{fits}
+use Rattle.text.proofs.Put.{kept, fits}
 use Rattle.text.proofs.Texts.{digits-few}
 use Rattle.store.specs.Records.{objectOf}
 use Rattle.store.specs.Check.{checkStore, checkCodeObject}
@@ -117,7 +117,7 @@ line r = rw (length-append, length-append, length-append, length-append) (omega 
 -- a text that is put whole
 printed : (t o o′ : List ℕ) (r : ℕ) → length o ≡ 65536 → length t ≤ 65536 → Put o 0 t o′ r → Printed t o o′ r
 printed t o o′ r s h p = record {
-  within = omega (arith, size);
+  within = omega (arith, size, room, kept p);
   start = rw (size, fits room p) (take-append-seam t (drop (length t) o));
   rest = rw (size, fits room p) (drop-append-seam t (drop (length t) o));
 }

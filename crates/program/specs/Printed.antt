@@ -69,6 +69,6 @@ walkShown f = walkText (walkAnswer f 65536)
 -- What a program that prints the text t leaves: its buffer of 65,536 bytes was o and is o′. The first r bytes are t, and the others are as
 -- they were.
 pub record Printed (t o o′ : List ℕ) (r : ℕ) : Type 0 where
-  pub within : r ≤ 65536
+  pub within : r ≤ length o′
   pub start : take r o′ ≡ t
   pub rest : drop r o′ ≡ drop r o
