@@ -21,8 +21,8 @@ const SAMPLE_CODE: &[u8] = &[0x03, 0x05, 0x04, 0xfa, 0x0b];
 const P11: &[u8] = &[0x00, 0x05, 0x03, 0x00, 0x02];
 const SWITCH: &[u8] = &[0x09, 0x00, 0x02, 0x05, 0x0b];
 
-/// CallRuntime and InvokeIntrinsic, each with its name 0, and Return.
-const BOTH_NAMES: &[u8] = &[0x0a, 0x00, 0x00, 0xfa, 0x01, 0x0c, 0x00, 0xfa, 0x01, 0x0b];
+/// CallRuntime with name 1, InvokeIntrinsic with name 0, and Return.
+const BOTH_NAMES: &[u8] = &[0x0a, 0x01, 0x00, 0xfa, 0x01, 0x0c, 0x00, 0xfa, 0x01, 0x0b];
 
 /// What file_cases is lent as arguments, eight files a set: the usual names, but for these.
 const SETS: [&[(usize, &str)]; 13] = [
@@ -112,12 +112,14 @@ fn said(files: &Files, function: usize) -> Result<String, String> {
 }
 
 /// The files of file_cases. Those of the usual names are the sample's table with InvokeIntrinsic as
-/// opcode 0c and a name of each kind, and a function that shows both.
+/// opcode 0c and V8's first names of each kind, two and one, and a function that shows one of each.
 fn case_files() -> BTreeMap<&'static str, Vec<u8>> {
     let mut files = sample::sample();
     files.body[OPCODES].extend(opcode_record("InvokeIntrinsic", 0, &[16, 6, 8]));
-    files.body[RUNTIME] = name_record("DefineClass");
-    files.body[INTRINSIC] = name_record("CopyDataProperties");
+    for name in ["DebugBreakOnBytecode", "LoadLookupSlotForCall"] {
+        files.body[RUNTIME].extend(name_record(name));
+    }
+    files.body[INTRINSIC] = name_record("AsyncFunctionAwaitCaught");
     files.body[OBJECTS] =
         Object { kind: 1, count: 1, byte_size: 54 + ROOM as u32, ..Object::default() }.bytes();
     let length = (HEADER + ROOM) as u32;
@@ -206,7 +208,7 @@ mod tests {
     fn both_names_show() {
         let listing = record().unwrap()["file_cases/stdout"].clone();
         let listing = String::from_utf8(listing).unwrap();
-        assert!(listing.contains("CallRuntime [DefineClass], r0-r0\n"));
-        assert!(listing.contains("InvokeIntrinsic [_CopyDataProperties], r0-r0\n"));
+        assert!(listing.contains("CallRuntime [LoadLookupSlotForCall], r0-r0\n"));
+        assert!(listing.contains("InvokeIntrinsic [_AsyncFunctionAwaitCaught], r0-r0\n"));
     }
 }
