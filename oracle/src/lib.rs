@@ -8,7 +8,7 @@
 //! list_recording, jump_recording: the same for whole listings, and for targets and numbers in slots,
 //! out of lists. named: listings with a name. v8, v8_lists: what V8 printed, as vectors.
 //! real: the same functions as record files. walks: the walk check from document 01, with vectors
-//! in walk_*.
+//! in walk_*. programs: what the programs are run on.
 
 pub mod ask;
 pub mod cases;
@@ -24,6 +24,7 @@ pub mod list_recording;
 pub mod lists;
 pub mod named;
 pub mod port;
+pub mod programs;
 pub mod random;
 pub mod real;
 pub mod recording;

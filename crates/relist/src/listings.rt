@@ -10,7 +10,7 @@ pub fn listing(bytes: &[u8], files: Files, call: &[u8]) -> bool {
     listing_in(bytes, files, call, &mut out)
 }
 
-fn listing_in(bytes: &[u8], files: Files, call: &[u8], out: &mut [u8]) -> bool {
+fn listing_in(bytes: &[u8], files: Files, call: &[u8], out: &mut [u8; 65536]) -> bool {
     let n = list(bytes, files, out);
     if words::byte_at(call, 0) == 2 {
         return said::is_refusal_line(call, out, n);
@@ -19,7 +19,7 @@ fn listing_in(bytes: &[u8], files: Files, call: &[u8], out: &mut [u8]) -> bool {
 }
 
 // What the program prints, and its length.
-pub fn list(bytes: &[u8], files: Files, out: &mut [u8]) -> usize {
+pub fn list(bytes: &[u8], files: Files, out: &mut [u8; 65536]) -> usize {
     program::list_text(
         out,
         file(bytes, files, 0),

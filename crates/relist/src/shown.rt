@@ -27,7 +27,7 @@ fn show_item(bytes: &[u8], files: Files, kind: u8) {
     }
 }
 
-fn show_in(bytes: &[u8], files: Files, out: &mut [u8]) {
+fn show_in(bytes: &[u8], files: Files, out: &mut [u8; 65536]) {
     let n = listings::list(bytes, files, out);
     print_text(out, n);
 }

@@ -7,7 +7,7 @@ use oracle::port::{Port, STORE, TABLE};
 use oracle::records::Files;
 use oracle::vectors::{self, Writer};
 use oracle::{cases, code_recording, instructions, recording, sample, v8};
-use oracle::{jump_recording, list_recording, named, v8_lists};
+use oracle::{jump_recording, list_recording, named, programs, v8_lists};
 use oracle::{walk_classes, walk_recording, walk_short, walk_v8};
 use std::path::Path;
 use std::process::ExitCode;
@@ -30,6 +30,7 @@ const USAGE: &str = "usage:
   oracle record-walk SEED OUT..       write vectors of the walk (five files), and count their classes
   oracle record-walk-short OUT [few]  write vectors of the walk over all short codes, or over few of them
   oracle record-walk-v8 FOLDER OUT    write vectors of the walk over V8's functions (v8-listings)
+  oracle record-programs CRATES       write data, args and stdout of jscd_list, jscd_walk, file_cases
   oracle walk DIR [MARKS]             the walk over object 0's code with a mark buffer of so many bytes (65536)";
 
 fn main() -> ExitCode {
@@ -58,6 +59,7 @@ fn main() -> ExitCode {
         ["record-walk-v8", folder, out] => record_walk_v8(Path::new(folder), out),
         ["record-walk-short", out] => record_walk_short(out, false),
         ["record-walk-short", out, "few"] => record_walk_short(out, true),
+        ["record-programs", crates] => record_programs(Path::new(crates)),
         ["walk", folder] => walk(Path::new(folder), "65536"),
         ["walk", folder, marks] => walk(Path::new(folder), marks),
         _ => Err(USAGE.into()),
@@ -206,6 +208,11 @@ fn record_named(out: &str) -> Result<bool, String> {
 fn replay(file: &str) -> Result<bool, String> {
     let vectors = std::fs::read(file).map_err(|e| format!("{file}: {e}"))?;
     println!("{} calls, all the same", vectors::replay(&vectors)?);
+    Ok(true)
+}
+
+fn record_programs(crates: &Path) -> Result<bool, String> {
+    println!("{} files", programs::write(crates)?);
     Ok(true)
 }
 
