@@ -151,6 +151,7 @@ pub const WALK: usize = 19;
 pub const WALK_CODE: usize = 20;
 pub const WALK_LAST_BYTES: usize = 21;
 pub const LONG_LISTING: usize = 22;
+pub const HEADER: usize = 23;
 
 macro_rules! function {
     ($name:literal, $args:expr, $lent:expr) => {
@@ -162,7 +163,7 @@ macro_rules! function {
 }
 
 /// By number. New functions go behind.
-pub const FUNCTIONS: [Function; 23] = [
+pub const FUNCTIONS: [Function; 24] = [
     function!("listing", [], TABLE | STORE, listing),
     function!("raw_at", ["object", "offset", "length"], READS, raw_at),
     function!("array_len", ["object"], READS, array_len),
@@ -186,10 +187,23 @@ pub const FUNCTIONS: [Function; 23] = [
     function!("walk_code", ["object", "marks"], ON_CODE, walk_code),
     function!("walk_last_bytes", ["object", "prefixes"], ON_CODE, walk_last_bytes),
     function!("long_listing", [], TABLE | STORE, listing),
+    function!("header", ["object"], READS, header),
 ];
 
 /// Functions whose first argument is the object that lends its pool, or none.
 const POOL_LENT: [usize; 4] = [JUMP_TARGET, JUMP_TABLE, WALK_CODE, WALK_LAST_BYTES];
+
+/// The files that a call is lent, as bits.
+pub fn lent(call: &Call) -> u8 {
+    let pool = POOL_LENT.contains(&call.function) && call.args[0] != NO_OBJECT;
+    FUNCTIONS[call.function].lent | if pool { STORE } else { 0 }
+}
+
+/// Whether a call is lent code.
+pub fn lends_code(call: &Call) -> bool {
+    matches!(FUNCTIONS[call.function].lent, ON_CODE)
+        || matches!(call.function, RENDER_OPERAND | INSTRUCTION_TEXT)
+}
 
 /// An error is a call that cannot be asked: wrong arguments, or not comparable.
 pub fn ask(files: &Files, code: &[u8], call: &Call) -> Result<Answer, String> {
@@ -197,10 +211,7 @@ pub fn ask(files: &Files, code: &[u8], call: &Call) -> Result<Answer, String> {
     if call.args.len() != function.args.len() {
         return Err(format!("{} takes {}", function.name, function.args.join(", ")));
     }
-    let mut lent = function.lent;
-    if POOL_LENT.contains(&call.function) && call.args[0] != NO_OBJECT {
-        lent |= STORE;
-    }
+    let lent = lent(call);
     if let Err(refusal) = checks::table(files, lent).and_then(|_| store_check(files, lent, call)) {
         return Ok(Answer::Refused(refusal));
     }
@@ -264,6 +275,23 @@ impl<'a> Lent<'a> {
         let function = self.pool_lent()?;
         Ok((function, decode::checked(&self.port, self.code, self.call.args[1])?))
     }
+}
+
+/// The header of an object: the numbers that `render_sfi` writes in its first lines, and where in the payload the code is.
+fn header(lent: &Lent) -> Result<Answer, Refusal> {
+    let function = checks::function(lent.files, lent.call.args[0])?;
+    checks::code_length(lent.port.code_length(function))?;
+    let port = Port::of_any_code(lent.files, READS, function);
+    let mut whole = String::new();
+    port.disassembler()
+        .open_render_sfi(port.shared_function_info(), "", &mut whole)
+        .expect("any code decodes");
+    let last_words = whole.lines().skip(1).take(6).map(|l| l.rsplit(' ').next().unwrap_or(""));
+    let mut out: Vec<Word> = last_words.map(|n| Word::S(n.parse().expect("a number"))).collect();
+    let code = port.code_part(function);
+    out.push(Word::U(code.map_or(0, |part| port.place(part))));
+    out.push(Word::U(code.map_or(0, |part| part.len() as u64)));
+    Ok(words(out))
 }
 
 /// The listing of object 0: header and instruction lines of `render_sfi`.

@@ -8,7 +8,8 @@
 //! list_recording, jump_recording: the same for whole listings, and for targets and numbers in slots,
 //! out of lists. named: listings with a name. v8, v8_lists: what V8 printed, as vectors.
 //! real: the same functions as record files. walks: the walk check from document 01, with vectors
-//! in walk_*. programs: what the programs are run on.
+//! in walk_*. programs: what the programs are run on. header_recording: headers. wrong: recorded
+//! calls with one thing changed in each answer.
 
 pub mod ask;
 pub mod cases;
@@ -18,6 +19,7 @@ pub mod code_recording;
 pub mod codes;
 pub mod decode;
 pub mod faults;
+pub mod header_recording;
 pub mod instructions;
 pub mod jump_recording;
 pub mod list_recording;
@@ -40,3 +42,4 @@ pub mod walk_recording;
 pub mod walk_short;
 pub mod walk_v8;
 pub mod walks;
+pub mod wrong;

@@ -1,12 +1,6 @@
 // One recorded call: our own function is asked on the same files, and its answer compared with the recorded one. A further function
 // is an arm in `replayed` and a function of its own, here or in `instructions`.
 use crate::instructions;
-use crate::items::Files;
-use crate::items::Part;
-use crate::items::behind;
-use crate::items::file;
-use crate::items::lent;
-use crate::said;
 use serializer::Elem;
 use serializer::ElemAnswer;
 use serializer::LenAnswer;
@@ -17,12 +11,14 @@ use serializer::Smi;
 use store::Inner;
 use store::Repeat;
 use store::SlotValue;
-
-pub enum Outcome {
-    Same,
-    Differs,
-    NotHere,
-}
+use vectors::counts::Outcome;
+use vectors::counts::judged;
+use vectors::items::Files;
+use vectors::items::Part;
+use vectors::items::behind;
+use vectors::items::file;
+use vectors::items::lent;
+use vectors::said;
 
 // A call of function f, whose body is a part of the vector file.
 pub fn replayed(bytes: &[u8], files: Files, f: u8, body: Part) -> Outcome {
@@ -43,14 +39,6 @@ pub fn replayed(bytes: &[u8], files: Files, f: u8, body: Part) -> Outcome {
         18 => judged(instructions::last_bytes(bytes, files, call)),
         0..=10 => Outcome::NotHere,
         _ => Outcome::Differs,
-    }
-}
-
-fn judged(same: bool) -> Outcome {
-    if same {
-        Outcome::Same
-    } else {
-        Outcome::Differs
     }
 }
 

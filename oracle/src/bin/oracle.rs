@@ -7,8 +7,8 @@ use oracle::port::{Port, STORE, TABLE};
 use oracle::records::Files;
 use oracle::vectors::{self, Writer};
 use oracle::{cases, code_recording, instructions, recording, sample, v8};
-use oracle::{jump_recording, list_recording, named, programs, v8_lists};
-use oracle::{walk_classes, walk_recording, walk_short, walk_v8};
+use oracle::{header_recording, jump_recording, list_recording, named, programs, v8_lists};
+use oracle::{walk_classes, walk_recording, walk_short, walk_v8, wrong};
 use std::path::Path;
 use std::process::ExitCode;
 
@@ -23,6 +23,8 @@ const USAGE: &str = "usage:
   oracle record-code SEED OUT         write vectors of instructions, and count their classes
   oracle record-list SEED OUT         write vectors of whole listings, and count their classes
   oracle record-jump SEED OUT         the same for targets, entries, numbers in slots, max_register
+  oracle record-header SEED OUT       the same for headers
+  oracle record-wrong FOLDER PROGRAM OUT   write calls of FOLDER's recordings that PROGRAM asks, one thing changed in each answer
   oracle record-v8 FOLDER OUT         write vectors of what V8 printed (v8-listings), and count them
   oracle record-v8-list FOLDER OUT    write vectors of V8's whole listings, and count them
   oracle record-named OUT             write vectors of some named listings, and print them
@@ -51,6 +53,8 @@ fn main() -> ExitCode {
         ["record-code", seed, out] => record_code(seed, out),
         ["record-list", seed, out] => record_list(seed, out),
         ["record-jump", seed, out] => record_jump(seed, out),
+        ["record-header", seed, out] => record_header(seed, out),
+        ["record-wrong", folder, program, out] => record_wrong(Path::new(folder), program, out),
         ["record-named", out] => record_named(out),
         ["record-v8-list", folder, out] => record_v8_list(Path::new(folder), out),
         ["record-v8", folder, out] => record_v8(Path::new(folder), out),
@@ -161,6 +165,21 @@ fn record_list(seed: &str, out: &str) -> Result<bool, String> {
 fn record_jump(seed: &str, out: &str) -> Result<bool, String> {
     let recording = jump_recording::record(word(seed)?)?;
     classified(out, &recording.writer, &recording.classes, &jump_recording::wanted())
+}
+
+fn record_header(seed: &str, out: &str) -> Result<bool, String> {
+    let recording = header_recording::record(word(seed)?)?;
+    classified(out, &recording.writer, &recording.classes, &header_recording::wanted())
+}
+
+fn record_wrong(folder: &Path, program: &str, out: &str) -> Result<bool, String> {
+    let named = wrong::PROGRAMS.iter().find(|p| p.name == program);
+    let recording = wrong::record(named.ok_or(format!("no program {program}"))?, folder)?;
+    let vectors = &recording.writer;
+    std::fs::write(out, &vectors.out).map_err(|e| format!("{out}: {e}"))?;
+    print!("{}", recording.report());
+    println!("{} calls, {} bytes", vectors.calls, vectors.out.len());
+    Ok(true)
 }
 
 /// Writes vectors and prints their classes; false where a wanted class has no case.
