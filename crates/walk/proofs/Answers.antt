@@ -23,7 +23,7 @@ use Rattle.graph.proofs.Answers.{found}
 use Rattle.graph.proofs.Same.{answer-same}
 use Rattle.steps.specs.Steps.{Source, listing, walkGraph}
 use Rattle.steps.specs.Ways.{searchGraph}
-use Rattle.steps.proofs.Same.{search-less, less-search, walk-good, search-good}
+use Rattle.steps.proofs.Same.{search-less, less-search, walk-good}
 use Rattle.walk.specs.declared.Walked.{Walked}
 use Rattle.walk.specs.declared.Walked.the-variants as walked
 use Rattle.walk.specs.Walk.{answer, roomCheck, walkCheck, walkFound, unless, walkSource, WalkedAs, Promise}
@@ -60,10 +60,10 @@ module _ (s : Source) where
   ended ok = list-ends (decodes (s .code) (s .opcodes) (s .types) (s .rfs)) (suc (length (s .code))) 0 (no-fault ok)
 
   -- ---- the search
-  module _ (end : listing s .outcome ≡ Outcome.End) (some : 0 < length (s .code)) where
+  module _ (end : listing s .outcome ≡ Outcome.End) where
     right : {M : List ℕ} {f : Finding} → length M ≡ length (s .code) → Answer (searchGraph s) (length (s .code)) M f → WalkedAs (walkFound s []) (answer f) M
     right len a =
-        let x = found (walk-good s end some) len (answer-same (search-good s end some) (walk-good s end some) (search-less s) (less-search s) a) in
+        let x = found (walk-good s end) len (answer-same (search-less s) (less-search s) a) in
         (ap answer (x .0), x .1 ∙ sym (no-rest (length (s .code)) marks))
 
     pub searched : (M : List ℕ) (r : Walked) → length M ≡ length (s .code) → Answered (searchGraph s) (length (s .code)) M r → WalkedAs (walkFound s []) r M
@@ -106,9 +106,7 @@ module _ (s : Source) where
       go : (c : Check) → walkCheck s (length M) ≡ c → Promise s (unless c M (walkFound s M) .0)
       go (Refused x) h = tt
       go Ok h =
-          let room = or-right whole (roomCheck (length (s .code)) (length M)) h in
-          let some = ltb-true 0 (length (s .code)) (good-is (ltb 0 (length (s .code))) 19 (or-left (unlessGood (ltb 0 (length (s .code))) 19) _ room)) in
-          met (finding (walkGraph s)) (finding-meets (walk-good s (ended (or-left whole _ h)) some))
+          met (finding (walkGraph s)) (finding-meets (walk-good s (ended (or-left whole _ h))))
 
 -- ---- the calls
 -- what a refusal before the code is looked at, or the code's own answer, promises

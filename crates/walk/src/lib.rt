@@ -12,10 +12,10 @@ use tables::Layout;
 use targets::Pool;
 ghost use mathlib.Core.Path.{_≡_};
 ghost use Prim.Native.Nat.{_≤_, _<_};
-ghost use mathlib.Core.Bool.{false};
+ghost use mathlib.Core.Bool.{true, false};
 ghost use lib.ListN.{length, getD, replicate};
 ghost use Rattle.decoder.specs.Listed.{listed};
-ghost use Rattle.graph.specs.Graph.{Succ, exits};
+ghost use Rattle.graph.specs.Graph.{isStart, Succ, exits};
 ghost use Rattle.graph.specs.Queue.{Held, Grown, SuccIn, Quiet, Lowest, lowerOf};
 ghost use Rattle.steps.specs.Ways.{wayAt};
 ghost use mathlib.Core.List.{[]};
@@ -580,7 +580,7 @@ fn levels(
     marks: &mut [u8],
     queue: &mut [u16],
 ) -> Walked
-    requires { ⌜ Held (now marks) (now queue) 0 × (length (now marks) ≡ length (now code)) × (0 < length (now code)) × Ready (now opcodes) (now flows) setup (graphOf (now code) (now opcodes) (now types) (now slots) (now payload) setup) (length (now code)) × StartsAre ((graphOf (now code) (now opcodes) (now types) (now slots) (now payload) setup) .starts) (now starts) ⌝ }
+    requires { ⌜ Held (now marks) (now queue) 0 × (length (now marks) ≡ length (now code)) × (0 < length (now code)) × Ready (now opcodes) (now flows) setup (graphOf (now code) (now opcodes) (now types) (now slots) (now payload) setup) (length (now code)) × StartsAre ((graphOf (now code) (now opcodes) (now types) (now slots) (now payload) setup) .starts) (now starts) × (isStart (graphOf (now code) (now opcodes) (now types) (now slots) (now payload) setup) 0 ≡ true) ⌝ }
     ensures { λ r. ⌜ Answered (graphOf (now (code .entry)) (now (opcodes .entry)) (now (types .entry)) (now (slots .entry)) (now (payload .entry)) setup) (length (now (code .entry))) (now (marks .exit)) r ⌝ }
 {
     let mut lo = 0;

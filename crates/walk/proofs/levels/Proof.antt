@@ -45,7 +45,7 @@ push-requires c κs = let s = c .before .before .before .before .before .before 
 
 -- src/lib.rt:284:5
 loop-holds : tie.Need-loop-holds Inv-loop μ-loop
-loop-holds c = (level-start (c .before .before .before .before .push .ensures), c .before .before .before .before .push .kept .0 ∙ c .before .before .before .before .before .before .before .before .before .before .before .before .before .before .before .before .pre .1, refl)
+loop-holds c = (level-start (c .before .before .before .before .before .before .before .before .before .before .before .before .before .before .before .before .pre .5) (c .before .before .before .before .push .ensures), c .before .before .before .before .push .kept .0 ∙ c .before .before .before .before .before .before .before .before .before .before .before .before .before .before .before .before .pre .1, refl)
 
 -- src/lib.rt:285:13
 lowest-requires : tie.Need-lowest-requires Inv-loop μ-loop
