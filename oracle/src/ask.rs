@@ -152,6 +152,7 @@ pub const WALK_CODE: usize = 20;
 pub const WALK_LAST_BYTES: usize = 21;
 pub const LONG_LISTING: usize = 22;
 pub const HEADER: usize = 23;
+pub const JUMP_ENTRY: usize = 24;
 
 macro_rules! function {
     ($name:literal, $args:expr, $lent:expr) => {
@@ -163,7 +164,7 @@ macro_rules! function {
 }
 
 /// By number. New functions go behind.
-pub const FUNCTIONS: [Function; 24] = [
+pub const FUNCTIONS: [Function; 25] = [
     function!("listing", [], TABLE | STORE, listing),
     function!("raw_at", ["object", "offset", "length"], READS, raw_at),
     function!("array_len", ["object"], READS, array_len),
@@ -188,10 +189,11 @@ pub const FUNCTIONS: [Function; 24] = [
     function!("walk_last_bytes", ["object", "prefixes"], ON_CODE, walk_last_bytes),
     function!("long_listing", [], TABLE | STORE, listing),
     function!("header", ["object"], READS, header),
+    function!("jump_entry", ["object", "start", "entry"], ON_CODE, jump_entry),
 ];
 
 /// Functions whose first argument is the object that lends its pool, or none.
-const POOL_LENT: [usize; 4] = [JUMP_TARGET, JUMP_TABLE, WALK_CODE, WALK_LAST_BYTES];
+const POOL_LENT: [usize; 5] = [JUMP_TARGET, JUMP_TABLE, WALK_CODE, WALK_LAST_BYTES, JUMP_ENTRY];
 
 /// The files that a call is lent, as bits.
 pub fn lent(call: &Call) -> u8 {
@@ -391,6 +393,35 @@ fn jump_table(lent: &Lent) -> Result<Answer, Refusal> {
         out.extend([Word::S(case as i64), Word::U(target as u64)]);
     }
     Ok(words(out))
+}
+
+/// One entry of a table: 0 with case and target, 1 skipped, 2 beyond the table. The Rust leaves skipped entries out, so it
+/// is asked for the tables that end before this entry and behind it.
+fn jump_entry(lent: &Lent) -> Result<Answer, Refusal> {
+    let (function, Some(ins)) = lent.jump()? else {
+        return Ok(Answer::End);
+    };
+    checks::switch(&lent.port, function, &ins)?;
+    let entries = |ins: &Instr| lent.port.disassembler().open_jump_table(function, ins);
+    if entries(&ins).is_none() {
+        return Ok(Answer::Nothing);
+    }
+    let (place, count) = checks::entry_count(&ins).expect("a table has a count");
+    let k = lent.call.args[2];
+    if k >= count as u64 {
+        return Ok(words(vec![Word::U(2)]));
+    }
+    let first = |n: u64| {
+        let mut ins = ins.clone();
+        ins.operands[place] = Operand::Idx(n as u32);
+        entries(&ins).expect("a shorter table")
+    };
+    Ok(words(match first(k + 1).get(first(k).len()) {
+        Some((case, target)) => {
+            vec![Word::U(0), Word::S(*case as i64), Word::U(*target as u64)]
+        }
+        None => vec![Word::U(1)],
+    }))
 }
 
 fn max_register(lent: &Lent) -> Result<Answer, Refusal> {

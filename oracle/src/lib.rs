@@ -8,8 +8,8 @@
 //! list_recording, jump_recording: the same for whole listings, and for targets and numbers in slots,
 //! out of lists. named: listings with a name. v8, v8_lists: what V8 printed, as vectors.
 //! real: the same functions as record files. walks: the walk check from document 01, with vectors
-//! in walk_*. programs: what the programs are run on. header_recording: headers. wrong: recorded
-//! calls with one thing changed in each answer.
+//! in walk_*. programs: what the programs are run on. header_recording: headers.
+//! entry_recording: entries of switches. wrong: recorded calls with one thing changed in each answer.
 
 pub mod ask;
 pub mod cases;
@@ -18,6 +18,7 @@ pub mod classes;
 pub mod code_recording;
 pub mod codes;
 pub mod decode;
+pub mod entry_recording;
 pub mod faults;
 pub mod header_recording;
 pub mod instructions;

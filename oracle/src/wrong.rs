@@ -36,8 +36,17 @@ pub const PROGRAMS: [Program; 3] = [
     },
     Program {
         name: "relist",
-        functions: &[LISTING, SMI_SLOT, NUM_FIELD, JUMP_TARGET, JUMP_TABLE, LONG_LISTING, HEADER],
-        files: &["rows.vec", "named.vec", "list.vec", "jump.vec", "header.vec"],
+        functions: &[
+            LISTING,
+            SMI_SLOT,
+            NUM_FIELD,
+            JUMP_TARGET,
+            JUMP_TABLE,
+            LONG_LISTING,
+            HEADER,
+            JUMP_ENTRY,
+        ],
+        files: &["rows.vec", "named.vec", "list.vec", "jump.vec", "entry.vec", "header.vec"],
     },
     Program {
         name: "rewalk",
@@ -160,7 +169,7 @@ fn kinds(function: usize, said: &[u8]) -> Vec<String> {
         _ => {}
     }
     match function {
-        ARRAY_ELEM => vec![format!("kind {}", number(said, 0))],
+        ARRAY_ELEM | JUMP_ENTRY => vec![format!("kind {}", number(said, 0))],
         SLOT_AT => vec![format!("kind {}, inner {}", number(said, 0), number(said, 4))],
         JUMP_TABLE => vec![format!("{} entries", number(said, 0).min(2))],
         WALK | WALK_CODE => {
