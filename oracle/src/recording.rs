@@ -152,6 +152,7 @@ mod tests {
             "jump.vec",
             "entry.vec",
             "header.vec",
+            "layout.vec",
             "v8list.vec",
         ];
         let rewalk = ["walk-1", "walk-2", "walk-3", "walk-4", "walk-5", "walk-few", "walk-v8"];

@@ -46,7 +46,15 @@ pub const PROGRAMS: [Program; 3] = [
             HEADER,
             JUMP_ENTRY,
         ],
-        files: &["rows.vec", "named.vec", "list.vec", "jump.vec", "entry.vec", "header.vec"],
+        files: &[
+            "rows.vec",
+            "named.vec",
+            "list.vec",
+            "jump.vec",
+            "entry.vec",
+            "header.vec",
+            "layout.vec",
+        ],
     },
     Program {
         name: "rewalk",

@@ -34,7 +34,7 @@ fn main() {
     let list = relist(b"list.vec", false);
     let jump = relist(b"jump.vec", false);
     let entry = relist(b"entry.vec", false);
-    let headers = relist(b"header.vec", false);
+    let headers = both(relist(b"header.vec", false), relist(b"layout.vec", false));
     let v8 = relist(b"v8list.vec", false);
     let lists = both(both(named, rows), both(list, v8));
     print_total(both(lists, both(both(jump, entry), headers)));

@@ -25,6 +25,7 @@ const USAGE: &str = "usage:
   oracle record-list SEED OUT         write vectors of whole listings, and count their classes
   oracle record-jump SEED OUT         the same for targets, entries, numbers in slots, max_register
   oracle record-header SEED OUT       the same for headers
+  oracle record-layout OUT            the same for the sample's header by good and bad layouts
   oracle record-entry SEED OUT        the same for single entries of switches
   oracle record-wrong FOLDER PROGRAM OUT   write calls of FOLDER's recordings that PROGRAM asks, one thing changed in each answer
   oracle record-v8 FOLDER OUT         write vectors of what V8 printed (v8-listings), and count them
@@ -56,6 +57,7 @@ fn main() -> ExitCode {
         ["record-list", seed, out] => record_list(seed, out),
         ["record-jump", seed, out] => record_jump(seed, out),
         ["record-header", seed, out] => record_header(seed, out),
+        ["record-layout", out] => record_layout(out),
         ["record-entry", seed, out] => record_entry(seed, out),
         ["record-wrong", folder, program, out] => record_wrong(Path::new(folder), program, out),
         ["record-named", out] => record_named(out),
@@ -173,6 +175,11 @@ fn record_jump(seed: &str, out: &str) -> Result<bool, String> {
 fn record_header(seed: &str, out: &str) -> Result<bool, String> {
     let recording = header_recording::record(word(seed)?)?;
     classified(out, &recording.writer, &recording.classes, &header_recording::wanted())
+}
+
+fn record_layout(out: &str) -> Result<bool, String> {
+    let recording = header_recording::record_layouts()?;
+    classified(out, &recording.writer, &recording.classes, &[])
 }
 
 fn record_entry(seed: &str, out: &str) -> Result<bool, String> {
