@@ -2,7 +2,7 @@
 
 use crate::checks::{self, Refusal};
 use crate::decode;
-use crate::port::{bit, Port, STORE, TABLE};
+use crate::port::{self, bit, Port, STORE, TABLE};
 use crate::records::*;
 use crate::walks::{self, Outcome, Walked};
 use jscd::bytecode::{Instr, Operand};
@@ -153,6 +153,7 @@ pub const WALK_LAST_BYTES: usize = 21;
 pub const LONG_LISTING: usize = 22;
 pub const HEADER: usize = 23;
 pub const JUMP_ENTRY: usize = 24;
+pub const SLOT_RECORDS: usize = 25;
 
 macro_rules! function {
     ($name:literal, $args:expr, $lent:expr) => {
@@ -164,7 +165,7 @@ macro_rules! function {
 }
 
 /// By number. New functions go behind.
-pub const FUNCTIONS: [Function; 25] = [
+pub const FUNCTIONS: [Function; 26] = [
     function!("listing", [], TABLE | STORE, listing),
     function!("raw_at", ["object", "offset", "length"], READS, raw_at),
     function!("array_len", ["object"], READS, array_len),
@@ -190,6 +191,7 @@ pub const FUNCTIONS: [Function; 25] = [
     function!("long_listing", [], TABLE | STORE, listing),
     function!("header", ["object"], READS, header),
     function!("jump_entry", ["object", "start", "entry"], ON_CODE, jump_entry),
+    function!("slot_records", [], STORE, slot_records),
 ];
 
 /// Functions whose first argument is the object that lends its pool, or none.
@@ -553,6 +555,17 @@ fn slot_at(lent: &Lent) -> Result<Answer, Refusal> {
     let object = lent.object()?;
     let found = lent.number(1).and_then(|slot| lent.port.cache.slot_at(object, slot));
     Ok(found.map_or(Answer::Nothing, |v| words(slot_words(v).map(Word::U).to_vec())))
+}
+
+/// Index and value of every slot record, in order.
+fn slot_records(lent: &Lent) -> Result<Answer, Refusal> {
+    let mut out = Vec::new();
+    for slot in lent.files.all(SLOTS).map(Slot::read) {
+        let slot = port::slot(slot);
+        out.push(Word::U(slot.index as u64));
+        out.extend(slot_words(&slot.value).map(Word::U));
+    }
+    Ok(words(out))
 }
 
 /// Kind, number or offset, length, repeat count, inner kind.

@@ -9,7 +9,8 @@
 //! out of lists. named: listings with a name. v8, v8_lists: what V8 printed, as vectors.
 //! real: the same functions as record files. walks: the walk check from document 01, with vectors
 //! in walk_*. programs: what the programs are run on. header_recording: headers.
-//! entry_recording: entries of switches. wrong: recorded calls with one thing changed in each answer.
+//! entry_recording: entries of switches. slot_recording: slot records. wrong: recorded calls with
+//! one thing changed in each answer.
 
 pub mod ask;
 pub mod cases;
@@ -33,6 +34,7 @@ pub mod real;
 pub mod recording;
 pub mod records;
 pub mod sample;
+pub mod slot_recording;
 pub mod stores;
 pub mod v8;
 pub mod v8_lists;

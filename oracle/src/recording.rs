@@ -144,7 +144,8 @@ mod tests {
     #[test]
     fn copies_are_current() {
         let oracle = std::path::Path::new(env!("CARGO_MANIFEST_DIR"));
-        let replay = ["rows.vec", "store.vec", "code.vec", "v8.vec"].map(|name| ("replay", name));
+        let replay = ["rows.vec", "store.vec", "slots.vec", "code.vec", "v8.vec"]
+            .map(|name| ("replay", name));
         let relist = [
             "rows.vec",
             "named.vec",

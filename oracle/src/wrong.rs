@@ -31,8 +31,9 @@ pub const PROGRAMS: [Program; 3] = [
             STORE_CHECK,
             INSTRUCTION_TEXT,
             LAST_BYTES,
+            SLOT_RECORDS,
         ],
-        files: &["rows.vec", "store.vec", "code.vec"],
+        files: &["rows.vec", "store.vec", "code.vec", "slots.vec"],
     },
     Program {
         name: "relist",
@@ -193,6 +194,7 @@ fn kinds(function: usize, said: &[u8]) -> Vec<String> {
             out.push(format!("{count} operands"));
             out
         }
+        SLOT_RECORDS => vec![format!("{} slots", (said.len() / 48).min(3))],
         LAST_BYTES | WALK_LAST_BYTES => {
             let runs = runs(&said[1..]);
             let mut out = vec![format!("{} runs", runs.len().min(4))];
@@ -222,6 +224,10 @@ fn wrongs(right: &Chosen) -> Result<Vec<Vec<u8>>, String> {
             }
             if said[0] == 1 && function == JUMP_TABLE {
                 out.extend(one_entry_fewer(said));
+            }
+            if said.len() > 48 && function == SLOT_RECORDS {
+                out.push(said[..said.len() - 48].to_vec());
+                out.push([&[1], &said[49..]].concat());
             }
         }
     }
