@@ -1,6 +1,6 @@
 -- Which of our tables are V8's at an instruction, and what V8 reads there (V8.antt) as an instruction of ours. `v8-decoding` of
 -- proofs/V8.antt says that for such a table it is what we decode.
-use Prim.Native.Nat.{ℕ, zero, suc, _+_, _<_, _≤_}
+use Prim.Native.Nat.{ℕ, suc, _+_, _<_, _≤_}
 use mathlib.Core.Path.{_≡_}
 use mathlib.Core.List.{List, [], _∷_}
 use mathlib.Core.Bool.{Bool, true, false, cond, not, _&&_, _||_}

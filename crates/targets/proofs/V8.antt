@@ -1,12 +1,12 @@
 -- For instructions in V8's form our targets and entries are V8's. Assumes nothing.
-use Prim.Native.Nat.{ℕ, zero, suc, _+_, _%_, _<_, _≤_, _^_, min}
+use Prim.Native.Nat.{ℕ, zero, suc, _+_, _<_, _≤_, _^_, min}
 use mathlib.Core.Path.{_≡_, refl, sym, ap, _∙_}
 use mathlib.Core.Bool.{Bool, true, false, cond, _||_}
 use mathlib.Core.List.{List, [], _∷_, _++_}
 use native.Mathlib.Omega.{arith}
 use native.Mathlib.Nat.{mod-eq-of-lt, not-suc-le-zero, le-of-suc-le-suc}
 use borrow.Author.Tests.{lt-ltb, le-leb}
-use lib.Dec.{eqb, ltb, leb}
+use lib.Dec.{eqb, ltb}
 use lib.IntN.{ℤ, pos, negsuc, natAbs, negℤ, _+ℤ_, +ℤ-assoc, +ℤ-comm, +ℤ-idr}
 use lib.ListN.{length, getD}
 use mir.Syntax.{w32}
@@ -15,24 +15,21 @@ use Rattle.words.specs.Signed.{modulo, wrap32}
 use Rattle.words.proofs.Le.{Bytes}
 use Rattle.words.proofs.Signs.{wrap-add-wrap}
 use Rattle.operand.specs.declared.Operand.{Operand}
-use Rattle.operand.specs.declared.Operand.the-variants.{Nothing, Reg, Imm, Idx}
+use Rattle.operand.specs.declared.Operand.the-variants.{Nothing, Imm, Idx}
 use Rattle.decoder.specs.declared.Instr.{Instr}
 use Rattle.decoder.specs.declared.Decoded.{Decoded}
 use Rattle.decoder.specs.Decode.{instrOf, recordsOf}
 use Rattle.decoder.specs.Listed.{decodes}
 use Rattle.decoder.specs.V8.{OperandType, Bytecodes, typeInfo, isUnsigned, isPrefixScaling, toInt, size, prefixSize, operandScale, currentBytecode, currentTypes, nextOffset, getOperand}
 use Rattle.decoder.specs.V8.OperandType.{kIdx, kUImm, kImm, kReg}
-use Rattle.decoder.specs.Form.{codeOf, V8Form, shownOperand, shownFrom, v8Decoded}
+use Rattle.decoder.specs.Form.{codeOf, V8Form, shownOperand, shownFrom}
 use Rattle.decoder.proofs.V8.{wrap-fits, operand-int, v8-decoding}
-use Rattle.flow.specs.declared.Flow.{Flow}
 use Rattle.serializer.specs.declared.Elem.{Elem}
 use Rattle.targets.specs.declared.Index.the-variants as index
-use Rattle.targets.specs.declared.Number.{Number}
 use Rattle.targets.specs.declared.Number.the-variants as number
 use Rattle.targets.specs.declared.Target.the-variants as target
 use Rattle.targets.specs.declared.Entries.{Entries}
 use Rattle.targets.specs.declared.Table.the-variants as table
-use Rattle.targets.specs.declared.Entry.{Entry}
 use Rattle.targets.specs.declared.Entry.the-variants as entry
 use Rattle.targets.specs.Targets.{operandOf, here, indexOf, numberOf, smiOf, distanceBy, targetFrom, jumpTarget, sizedBy, tableBy, jumpTable, entryAt}
 use Rattle.targets.specs.V8.{Jump, Switch, ConstantPool, TargetOffset, getAbsoluteOffset, getJumpTargetOffset, offsetsFrom, getJumpTableTargetOffsets}

@@ -1,13 +1,15 @@
 -- Which of our instructions are V8's jumps and switches (V8.antt), and what V8's targets are here. `v8-jump` and `v8-switch` of
 -- proofs/V8.antt say that for such an instruction they are ours.
-use Prim.Native.Nat.{ℕ, zero, suc, _+_, _<_, _≤_, _^_}
+use Prim.Native.Nat.{ℕ, zero, suc, _+_, _<_, _^_}
+use Prim.Native.String.{String}
 use mathlib.Core.Path.{_≡_}
 use mathlib.Core.Bool.{Bool, true, false, cond}
 use mathlib.Core.List.{List, [], _∷_}
 use lib.IntN.{ℤ, pos, negsuc, natAbs}
+use Rattle.laws.specs.Ascii.{ascii}
 use Rattle.decoder.specs.V8.{OperandType}
 use Rattle.decoder.specs.V8.OperandType.{kIdx, kUImm, kImm, kReg}
-use Rattle.flow.specs.Flow.{plain}
+use Rattle.flow.specs.Flow.{plain, flowOf}
 use Rattle.flow.specs.declared.Kind.the-variants as kind
 use Rattle.flow.specs.declared.Flow.{Flow}
 use Rattle.serializer.specs.declared.Elem.{Elem}
@@ -33,6 +35,10 @@ jumpFlow jumpConstant conditional = plain (cond conditional kind.Branches kind.J
 abbrev pub switchFlow : Switch → Flow
 switchFlow switchOnSmiNoFeedback = record { kind = kind.Switch; pool = true; first = 0; base = true }
 switchFlow switchOnGeneratorState = record { kind = kind.Switch; pool = true; first = 1; base = false }
+
+-- our flow of an opcode of a name
+abbrev pub flowNamed : String → Flow
+flowNamed name = flowOf (ascii name) 0
 
 -- bytecodes.h: the first operands of jumps and switches
 abbrev pub jumpTypes : Jump → List OperandType
