@@ -6,7 +6,7 @@ use mathlib.Core.List.{List, [], _∷_, _++_}
 use native.Mathlib.Omega.{arith}
 use native.Mathlib.Nat.{mod-eq-of-lt, not-suc-le-zero, le-of-suc-le-suc}
 use borrow.Author.Tests.{lt-ltb, le-leb}
-use lib.Dec.{eqb, ltb}
+use lib.Dec.{eqb}
 use lib.IntN.{ℤ, pos, negsuc, natAbs, negℤ, _+ℤ_, +ℤ-assoc, +ℤ-comm, +ℤ-idr}
 use lib.ListN.{length, getD}
 use mir.Syntax.{w32}
@@ -193,15 +193,16 @@ module _ (b : Bytecodes) (code ops types : List ℕ) (rfs : ℤ) (offset : ℕ) 
   here-is : (ts : List OperandType) → here (told ts) ≡ offset + prefix
   here-is ts =
       let l : offset + prefix < 2 ^ 64 = omega (arith, size-one (currentTypes b code offset) (operandScale b code offset)) in
-      rw (go (isPrefixScaling b x) (eqb x (b .kWide) || eqb x (b .kDebugBreakWide))) (mod-eq-of-lt l)
+      go (isPrefixScaling b x) (eqb x (b .kWide) || eqb x (b .kDebugBreakWide)) l
     where
       x : ℕ
       x = getD code offset 0
 
-      go : (p w : Bool) → _≡_ {A = ℕ} (cond (ltb 1 (cond p (cond w 2 4) 1)) 1 0) (cond p 1 0)
-      go true true = refl
-      go true false = refl
-      go false w = refl
+      go : (p w : Bool) → offset + cond p 1 0 < 2 ^ 64
+          → here (instrOf offset (currentBytecode b code offset) (cond p (cond w 2 4) 1) (nextOffset b code offset) (shownFrom z rfs false 0 ts)) ≡ offset + cond p 1 0
+      go true true l = mod-eq-of-lt l
+      go true false l = mod-eq-of-lt l
+      go false w l = mod-eq-of-lt l
 
   at : (ts : List OperandType) (k : ℕ) → k < 8 → k < length (shownFrom z rfs false 0 ts) → operandOf (told ts) k ≡ getD (shownFrom z rfs false 0 ts) k Nothing
   at ts k h l = operand-at offset (currentBytecode b code offset) (operandScale b code offset) (nextOffset b code offset) k (shownFrom z rfs false 0 ts) h l
