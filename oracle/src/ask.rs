@@ -2,7 +2,7 @@
 
 use crate::checks::{self, Refusal};
 use crate::decode;
-use crate::port::{bit, Port, STORE, TABLE};
+use crate::port::{self, bit, Port, STORE, TABLE};
 use crate::records::*;
 use crate::walks::{self, Outcome, Walked};
 use jscd::bytecode::{Instr, Operand};
@@ -152,6 +152,8 @@ pub const WALK_CODE: usize = 20;
 pub const WALK_LAST_BYTES: usize = 21;
 pub const LONG_LISTING: usize = 22;
 pub const HEADER: usize = 23;
+pub const JUMP_ENTRY: usize = 24;
+pub const SLOT_RECORDS: usize = 25;
 
 macro_rules! function {
     ($name:literal, $args:expr, $lent:expr) => {
@@ -163,7 +165,7 @@ macro_rules! function {
 }
 
 /// By number. New functions go behind.
-pub const FUNCTIONS: [Function; 24] = [
+pub const FUNCTIONS: [Function; 26] = [
     function!("listing", [], TABLE | STORE, listing),
     function!("raw_at", ["object", "offset", "length"], READS, raw_at),
     function!("array_len", ["object"], READS, array_len),
@@ -188,10 +190,12 @@ pub const FUNCTIONS: [Function; 24] = [
     function!("walk_last_bytes", ["object", "prefixes"], ON_CODE, walk_last_bytes),
     function!("long_listing", [], TABLE | STORE, listing),
     function!("header", ["object"], READS, header),
+    function!("jump_entry", ["object", "start", "entry"], ON_CODE, jump_entry),
+    function!("slot_records", [], STORE, slot_records),
 ];
 
 /// Functions whose first argument is the object that lends its pool, or none.
-const POOL_LENT: [usize; 4] = [JUMP_TARGET, JUMP_TABLE, WALK_CODE, WALK_LAST_BYTES];
+const POOL_LENT: [usize; 5] = [JUMP_TARGET, JUMP_TABLE, WALK_CODE, WALK_LAST_BYTES, JUMP_ENTRY];
 
 /// The files that a call is lent, as bits.
 pub fn lent(call: &Call) -> u8 {
@@ -393,6 +397,35 @@ fn jump_table(lent: &Lent) -> Result<Answer, Refusal> {
     Ok(words(out))
 }
 
+/// One entry of a table: 0 with case and target, 1 skipped, 2 beyond the table. The Rust leaves skipped entries out, so it
+/// is asked for the tables that end before this entry and behind it.
+fn jump_entry(lent: &Lent) -> Result<Answer, Refusal> {
+    let (function, Some(ins)) = lent.jump()? else {
+        return Ok(Answer::End);
+    };
+    checks::switch(&lent.port, function, &ins)?;
+    let entries = |ins: &Instr| lent.port.disassembler().open_jump_table(function, ins);
+    if entries(&ins).is_none() {
+        return Ok(Answer::Nothing);
+    }
+    let (place, count) = checks::entry_count(&ins).expect("a table has a count");
+    let k = lent.call.args[2];
+    if k >= count as u64 {
+        return Ok(words(vec![Word::U(2)]));
+    }
+    let first = |n: u64| {
+        let mut ins = ins.clone();
+        ins.operands[place] = Operand::Idx(n as u32);
+        entries(&ins).expect("a shorter table")
+    };
+    Ok(words(match first(k + 1).get(first(k).len()) {
+        Some((case, target)) => {
+            vec![Word::U(0), Word::S(*case as i64), Word::U(*target as u64)]
+        }
+        None => vec![Word::U(1)],
+    }))
+}
+
 fn max_register(lent: &Lent) -> Result<Answer, Refusal> {
     checks::lent_code(lent.code)?;
     let most = open_max_register(&decode::all(&lent.port, lent.code)?);
@@ -522,6 +555,17 @@ fn slot_at(lent: &Lent) -> Result<Answer, Refusal> {
     let object = lent.object()?;
     let found = lent.number(1).and_then(|slot| lent.port.cache.slot_at(object, slot));
     Ok(found.map_or(Answer::Nothing, |v| words(slot_words(v).map(Word::U).to_vec())))
+}
+
+/// Index and value of every slot record, in order.
+fn slot_records(lent: &Lent) -> Result<Answer, Refusal> {
+    let mut out = Vec::new();
+    for slot in lent.files.all(SLOTS).map(Slot::read) {
+        let slot = port::slot(slot);
+        out.push(Word::U(slot.index as u64));
+        out.extend(slot_words(&slot.value).map(Word::U));
+    }
+    Ok(words(out))
 }
 
 /// Kind, number or offset, length, repeat count, inner kind.

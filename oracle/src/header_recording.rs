@@ -40,6 +40,57 @@ pub fn record(seed: u64) -> Result<HeaderRecording, String> {
     Ok(out)
 }
 
+/// The sample's header by layouts to be refused, of another length or with a bad value, and by some at a limit; alone, and with
+/// a fault of each row behind the layout's.
+pub fn record_layouts() -> Result<HeaderRecording, String> {
+    let mut out = HeaderRecording { writer: Writer::sharing(), classes: Classes::default() };
+    for layout in layouts() {
+        let mut files = sample::sample();
+        files.body[LAYOUT] = layout;
+        out.call(&files, 0)?;
+        out.call(&files, u64::MAX)?;
+        for (file, at, byte) in [(SLOTS, 4, 6), (OBJECTS, 0, 2), (PAYLOAD, 7, 0xff)] {
+            let mut files = files.clone();
+            files.body[file][at] = byte;
+            out.call(&files, 0)?;
+        }
+        let mut files = files.clone();
+        files.body[OBJECTS].push(0);
+        out.call(&files, 0)?;
+    }
+    Ok(out)
+}
+
+fn layouts() -> Vec<Vec<u8>> {
+    let good = &sample::table().body[LAYOUT];
+    let mut out: Vec<Vec<u8>> = Vec::new();
+    for length in [0, 1, 79, 81, 84, 160] {
+        out.push(good.iter().copied().cycle().take(length).collect());
+    }
+    let with = |value: usize, is: u32| {
+        let mut layout = good.clone();
+        layout[4 * value..4 * value + 4].copy_from_slice(&is.to_le_bytes());
+        layout
+    };
+    for value in 0..20 {
+        let values: &[u32] = match value {
+            0 => &[0, 1, 4, 6, 264, 1 << 31, ABSENT],
+            1 => &[1, 4, 8, 12, 1 << 8, ABSENT],
+            2 => &[0, 65_535, 65_536, ABSENT],
+            3..=11 => &[65_535, 65_536, ABSENT - 1, ABSENT],
+            12 | 18 => &[1, 2, 256, ABSENT],
+            13..=17 => &[0, ABSENT],
+            _ => &[1, 1 << 31, ABSENT],
+        };
+        out.extend(values.iter().map(|is| with(value, *is)));
+    }
+    // Two faults: the value of the lower number is told.
+    let mut two = with(19, 1);
+    two[4 * 5..4 * 5 + 4].copy_from_slice(&65_536u32.to_le_bytes());
+    out.push(two);
+    out
+}
+
 impl HeaderRecording {
     /// Asks, records and counts. Only layout and store are lent.
     fn call(&mut self, files: &Files, object: u64) -> Result<(), String> {
@@ -161,6 +212,16 @@ mod tests {
     use super::*;
     use crate::recording::SEED;
     use crate::vectors;
+
+    /// The same for layouts; each refusal has a case.
+    #[test]
+    fn recorded_layouts_are_current() {
+        let recording = record_layouts().unwrap();
+        let wanted = [1, 5, 6, 7, 8, 9].map(|n| format!("refused {n}"));
+        assert_eq!(recording.classes.missing(&wanted), Vec::<String>::new());
+        assert!(include_bytes!("../recorded/layout.vec")[..] == recording.writer.out);
+        assert_eq!(vectors::replay(&recording.writer.out), Ok(recording.writer.calls));
+    }
 
     /// The file in recorded/ is what the seed gives, and every class has a case.
     #[test]

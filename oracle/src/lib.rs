@@ -8,8 +8,9 @@
 //! list_recording, jump_recording: the same for whole listings, and for targets and numbers in slots,
 //! out of lists. named: listings with a name. v8, v8_lists: what V8 printed, as vectors.
 //! real: the same functions as record files. walks: the walk check from document 01, with vectors
-//! in walk_*. programs: what the programs are run on. header_recording: headers. wrong: recorded
-//! calls with one thing changed in each answer.
+//! in walk_*. programs: what the programs are run on. header_recording: headers.
+//! entry_recording: entries of switches. slot_recording: slot records. wrong: recorded calls with
+//! one thing changed in each answer.
 
 pub mod ask;
 pub mod cases;
@@ -18,6 +19,7 @@ pub mod classes;
 pub mod code_recording;
 pub mod codes;
 pub mod decode;
+pub mod entry_recording;
 pub mod faults;
 pub mod header_recording;
 pub mod instructions;
@@ -32,6 +34,7 @@ pub mod real;
 pub mod recording;
 pub mod records;
 pub mod sample;
+pub mod slot_recording;
 pub mod stores;
 pub mod v8;
 pub mod v8_lists;

@@ -248,10 +248,8 @@ fn bytecode(files: &Files, record: Opcode) -> BytecodeDef {
 }
 
 fn object(files: &Files, record: Object) -> ser::Object {
-    let slots = (0..record.count).map(|k| {
-        let slot = Slot::read(files.record(SLOTS, (record.first + k) as usize));
-        ser::Slot { index: slot.index as usize, value: slot_value(slot, slot.kind) }
-    });
+    let slots = (0..record.count)
+        .map(|k| slot(Slot::read(files.record(SLOTS, (record.first + k) as usize))));
     ser::Object {
         ty: match record.kind {
             1 => ser::Ty::Structural("BytecodeArray"),
@@ -263,6 +261,10 @@ fn object(files: &Files, record: Object) -> ser::Object {
         slots: slots.collect(),
         raw_len: record.raw_len == 1,
     }
+}
+
+pub fn slot(slot: Slot) -> ser::Slot {
+    ser::Slot { index: slot.index as usize, value: slot_value(slot, slot.kind) }
 }
 
 fn slot_value(slot: Slot, kind: u8) -> ser::SlotValue {

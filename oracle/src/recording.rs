@@ -144,8 +144,18 @@ mod tests {
     #[test]
     fn copies_are_current() {
         let oracle = std::path::Path::new(env!("CARGO_MANIFEST_DIR"));
-        let replay = ["rows.vec", "store.vec", "code.vec", "v8.vec"].map(|name| ("replay", name));
-        let relist = ["rows.vec", "named.vec", "list.vec", "jump.vec", "header.vec", "v8list.vec"];
+        let replay = ["rows.vec", "store.vec", "slots.vec", "code.vec", "v8.vec"]
+            .map(|name| ("replay", name));
+        let relist = [
+            "rows.vec",
+            "named.vec",
+            "list.vec",
+            "jump.vec",
+            "entry.vec",
+            "header.vec",
+            "layout.vec",
+            "v8list.vec",
+        ];
         let rewalk = ["walk-1", "walk-2", "walk-3", "walk-4", "walk-5", "walk-few", "walk-v8"];
         let rewalk = rewalk.map(|name| ("rewalk", name.to_owned() + ".vec"));
         let copies = replay.into_iter().chain(relist.map(|name| ("relist", name)));

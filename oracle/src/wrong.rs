@@ -31,13 +31,31 @@ pub const PROGRAMS: [Program; 3] = [
             STORE_CHECK,
             INSTRUCTION_TEXT,
             LAST_BYTES,
+            SLOT_RECORDS,
         ],
-        files: &["rows.vec", "store.vec", "code.vec"],
+        files: &["rows.vec", "store.vec", "code.vec", "slots.vec"],
     },
     Program {
         name: "relist",
-        functions: &[LISTING, SMI_SLOT, NUM_FIELD, JUMP_TARGET, JUMP_TABLE, LONG_LISTING, HEADER],
-        files: &["rows.vec", "named.vec", "list.vec", "jump.vec", "header.vec"],
+        functions: &[
+            LISTING,
+            SMI_SLOT,
+            NUM_FIELD,
+            JUMP_TARGET,
+            JUMP_TABLE,
+            LONG_LISTING,
+            HEADER,
+            JUMP_ENTRY,
+        ],
+        files: &[
+            "rows.vec",
+            "named.vec",
+            "list.vec",
+            "jump.vec",
+            "entry.vec",
+            "header.vec",
+            "layout.vec",
+        ],
     },
     Program {
         name: "rewalk",
@@ -160,7 +178,7 @@ fn kinds(function: usize, said: &[u8]) -> Vec<String> {
         _ => {}
     }
     match function {
-        ARRAY_ELEM => vec![format!("kind {}", number(said, 0))],
+        ARRAY_ELEM | JUMP_ENTRY => vec![format!("kind {}", number(said, 0))],
         SLOT_AT => vec![format!("kind {}, inner {}", number(said, 0), number(said, 4))],
         JUMP_TABLE => vec![format!("{} entries", number(said, 0).min(2))],
         WALK | WALK_CODE => {
@@ -176,6 +194,7 @@ fn kinds(function: usize, said: &[u8]) -> Vec<String> {
             out.push(format!("{count} operands"));
             out
         }
+        SLOT_RECORDS => vec![format!("{} slots", (said.len() / 48).min(3))],
         LAST_BYTES | WALK_LAST_BYTES => {
             let runs = runs(&said[1..]);
             let mut out = vec![format!("{} runs", runs.len().min(4))];
@@ -205,6 +224,10 @@ fn wrongs(right: &Chosen) -> Result<Vec<Vec<u8>>, String> {
             }
             if said[0] == 1 && function == JUMP_TABLE {
                 out.extend(one_entry_fewer(said));
+            }
+            if said.len() > 48 && function == SLOT_RECORDS {
+                out.push(said[..said.len() - 48].to_vec());
+                out.push([&[1], &said[49..]].concat());
             }
         }
     }

@@ -9,9 +9,8 @@ use Rattle.laws.specs.Scan.{firstFrom}
 use Rattle.tables.specs.Records.{prefixOp}
 use Rattle.operand.specs.declared.Operand.the-variants.{RegList, Imm, RuntimeId}
 use Rattle.decoder.specs.declared.Outcome.{Outcome}
-use Rattle.decoder.specs.declared.Decoded.{Decoded}
 use Rattle.decoder.specs.Decode.{instrOf}
-use Rattle.decoder.specs.V8.{OperandType, Bytecodes, typeInfo, isScalable, isUnsigned, unscaledSize}
+use Rattle.decoder.specs.V8.{Bytecodes, typeInfo, isScalable, isUnsigned, unscaledSize}
 use Rattle.decoder.specs.V8.OperandType.{kRuntimeId, kRegCount, kImm, kRegList}
 use Rattle.decoder.specs.Form.{codeOf, V8Form, shownOperand, v8Decoded}
 

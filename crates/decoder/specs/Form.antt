@@ -1,6 +1,6 @@
 -- Which of our tables are V8's at an instruction, and what V8 reads there (V8.antt) as an instruction of ours. `v8-decoding` of
 -- proofs/V8.antt says that for such a table it is what we decode.
-use Prim.Native.Nat.{ℕ, zero, suc, _+_, _<_, _≤_}
+use Prim.Native.Nat.{ℕ, suc, _+_, _<_, _≤_}
 use mathlib.Core.Path.{_≡_}
 use mathlib.Core.List.{List, [], _∷_}
 use mathlib.Core.Bool.{Bool, true, false, cond, not, _&&_, _||_}
@@ -68,7 +68,8 @@ pub record V8Form (b : Bytecodes) (ops types : List ℕ) (first op : ℕ) : Type
   pub typed : Typed ops types op 0 (b .operandTypes op)
   pub lists : counted false (b .operandTypes op) ≡ true
 
--- the operand i of type t that BytecodeDecoder::Decode shows, by its switch; z gives the numbers that operands hold
+-- operand i of type t, by the switch of BytecodeDecoder::Decode; z gives the numbers that operands hold. A kRegCount behind no list, for which
+-- that has no case, is what GetRegisterCountOperand reads.
 unfoldable pub shownOperand : (ℕ → OperandType → ℤ) → ℤ → ℕ → OperandType → Operand
 shownOperand z start i kReg = Reg (fromOperand start (z i kReg))
 shownOperand z start i kRegOut = Reg (fromOperand start (z i kRegOut))
@@ -88,7 +89,7 @@ shownOperand z start i kFlag16 = Flag16 (natAbs (z i kFlag16))
 shownOperand z start i kRuntimeId = RuntimeId (natAbs (z i kRuntimeId))
 shownOperand z start i kIntrinsicId = IntrinsicId (natAbs (z i kIntrinsicId))
 
--- those that its loop shows from operand i on; the one behind a list is its count, and is passed ("Skip kRegCount")
+-- those that its loop shows from operand i on; behind a list stands its count, which the loop passes
 abbrev pub shownFrom : (ℕ → OperandType → ℤ) → ℤ → Bool → ℕ → List OperandType → List Operand
 shownFrom z start after i [] = []
 shownFrom z start true i (t ∷ ts) = shownFrom z start false (suc i) ts

@@ -1,4 +1,5 @@
 // Targets and entries of an instruction of lent code, with the pool of an object or without a pool.
+use jumps::EntryAnswer;
 use jumps::Owner;
 use jumps::TableAt;
 use jumps::TargetAt;
@@ -62,6 +63,33 @@ pub fn jump_table(bytes: &[u8], files: Files, call: &[u8]) -> bool {
         TableAt::Nothing => said::is_nothing(said),
         TableAt::End => said::is_end(said),
         TableAt::Refused(refusal) => said::is_refused(said, refusal),
+    }
+}
+
+// 24: one entry of a switch: 0 with case and target, 1 skipped, 2 beyond the table.
+pub fn jump_entry(bytes: &[u8], files: Files, call: &[u8]) -> bool {
+    let said = behind(call, 24);
+    let entry = jumps::jump_entry(
+        file(bytes, files, 8),
+        words::u64_at(call, 8) as usize,
+        file(bytes, files, 0),
+        file(bytes, files, 1),
+        file(bytes, files, 4),
+        file(bytes, files, 5),
+        file(bytes, files, 6),
+        file(bytes, files, 7),
+        owner(call),
+        words::u64_at(call, 16) as usize,
+    );
+    match entry {
+        EntryAnswer::Shown { case, target } => {
+            said::is_numbers_3(said, 0, words::bits64(words::wide(case)), target)
+        }
+        EntryAnswer::Skipped => said::is_number(said, 1),
+        EntryAnswer::Beyond => said::is_number(said, 2),
+        EntryAnswer::Nothing => said::is_nothing(said),
+        EntryAnswer::End => said::is_end(said),
+        EntryAnswer::Refused(refusal) => said::is_refused(said, refusal),
     }
 }
 

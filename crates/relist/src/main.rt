@@ -33,9 +33,11 @@ fn main() {
     let rows = relist(b"rows.vec", false);
     let list = relist(b"list.vec", false);
     let jump = relist(b"jump.vec", false);
-    let headers = relist(b"header.vec", false);
+    let entry = relist(b"entry.vec", false);
+    let headers = both(relist(b"header.vec", false), relist(b"layout.vec", false));
     let v8 = relist(b"v8list.vec", false);
-    print_total(both(both(named, rows), both(both(list, jump), both(headers, v8))));
+    let lists = both(both(named, rows), both(list, v8));
+    print_total(both(lists, both(both(jump, entry), headers)));
     print_wrong(relist(b"wrong.vec", false));
 }
 
@@ -107,6 +109,7 @@ fn asked(bytes: &[u8], files: Files, f: u8, call: &[u8]) -> Outcome {
         9 => judged(entries::jump_table(bytes, files, call)),
         22 => judged(listings::long_listing(bytes, files, call)),
         23 => judged(fields::header(bytes, files, call)),
+        24 => judged(entries::jump_entry(bytes, files, call)),
         1..=18 => Outcome::NotHere,
         _ => Outcome::Differs,
     }

@@ -2,6 +2,7 @@
 mod calls;
 mod for_c;
 mod instructions;
+mod slots;
 
 use vectors::counts::Counts;
 use vectors::counts::counted;
@@ -26,7 +27,7 @@ use vectors::lines::read;
 
 fn main() {
     let rows = replay(b"rows.vec");
-    let store = replay(b"store.vec");
+    let store = both(replay(b"store.vec"), replay(b"slots.vec"));
     let code = replay(b"code.vec");
     let v8 = replay(b"v8.vec");
     print_total(both(both(rows, store), both(code, v8)));

@@ -7,7 +7,8 @@ use oracle::port::{Port, STORE, TABLE};
 use oracle::records::Files;
 use oracle::vectors::{self, Writer};
 use oracle::{cases, code_recording, instructions, recording, sample, v8};
-use oracle::{header_recording, jump_recording, list_recording, named, programs, v8_lists};
+use oracle::{entry_recording, header_recording, jump_recording, list_recording, named};
+use oracle::{programs, slot_recording, v8_lists};
 use oracle::{walk_classes, walk_recording, walk_short, walk_v8, wrong};
 use std::path::Path;
 use std::process::ExitCode;
@@ -24,6 +25,9 @@ const USAGE: &str = "usage:
   oracle record-list SEED OUT         write vectors of whole listings, and count their classes
   oracle record-jump SEED OUT         the same for targets, entries, numbers in slots, max_register
   oracle record-header SEED OUT       the same for headers
+  oracle record-layout OUT            the same for the sample's header by good and bad layouts
+  oracle record-slots SEED OUT        the same for all slot records of a store
+  oracle record-entry SEED OUT        the same for single entries of switches
   oracle record-wrong FOLDER PROGRAM OUT   write calls of FOLDER's recordings that PROGRAM asks, one thing changed in each answer
   oracle record-v8 FOLDER OUT         write vectors of what V8 printed (v8-listings), and count them
   oracle record-v8-list FOLDER OUT    write vectors of V8's whole listings, and count them
@@ -54,6 +58,9 @@ fn main() -> ExitCode {
         ["record-list", seed, out] => record_list(seed, out),
         ["record-jump", seed, out] => record_jump(seed, out),
         ["record-header", seed, out] => record_header(seed, out),
+        ["record-layout", out] => record_layout(out),
+        ["record-slots", seed, out] => record_slots(seed, out),
+        ["record-entry", seed, out] => record_entry(seed, out),
         ["record-wrong", folder, program, out] => record_wrong(Path::new(folder), program, out),
         ["record-named", out] => record_named(out),
         ["record-v8-list", folder, out] => record_v8_list(Path::new(folder), out),
@@ -170,6 +177,21 @@ fn record_jump(seed: &str, out: &str) -> Result<bool, String> {
 fn record_header(seed: &str, out: &str) -> Result<bool, String> {
     let recording = header_recording::record(word(seed)?)?;
     classified(out, &recording.writer, &recording.classes, &header_recording::wanted())
+}
+
+fn record_layout(out: &str) -> Result<bool, String> {
+    let recording = header_recording::record_layouts()?;
+    classified(out, &recording.writer, &recording.classes, &[])
+}
+
+fn record_slots(seed: &str, out: &str) -> Result<bool, String> {
+    let recording = slot_recording::record(word(seed)?)?;
+    classified(out, &recording.writer, &recording.classes, &slot_recording::wanted())
+}
+
+fn record_entry(seed: &str, out: &str) -> Result<bool, String> {
+    let recording = entry_recording::record(word(seed)?)?;
+    classified(out, &recording.writer, &recording.classes, &entry_recording::wanted())
 }
 
 fn record_wrong(folder: &Path, program: &str, out: &str) -> Result<bool, String> {
