@@ -19,7 +19,7 @@ use Rattle.bytecode.specs.Texts.{paramName, regName, listName, operandText, ins
 use Rattle.flow.specs.Flow.{flowNames, flows, flowNumber, flowBy}
 use Rattle.targets.specs.Targets.{poolElem, operandOf, indexOf, numberOf, distanceBy, jumpTarget, jumpTable, tableBy, sizedBy}
 use Rattle.lines.specs.Line.{operandsBy, lineBy}
-use Rattle.disasm.specs.Lines.{switchCheck}
+use Rattle.function.specs.Code.{switchCheck}
 use Rattle.graph.specs.Graph.{isStart, exits, after, level, firstExit, finding, reached, marked, bits, markList}
 use Rattle.steps.specs.Steps.{entriesSteps, instrSteps, stepsAt, walkGraph}
 use Rattle.jumps.specs.Jumps.{targetOf, targetCall}

@@ -3,18 +3,17 @@ use Prim.Native.Nat.{ℕ, zero, suc, _<_, _≤_}
 use mathlib.Core.Path.{_≡_, refl, sym, ap, subst, _∙_}
 use mathlib.Core.List.{List, [], _++_, append-nil}
 use native.Mathlib.Omega.{arith}
-use borrow.Author.Tests.{lt-ltb, le-ltb, le-leb, lt-leb, ltb-true}
-use lib.Dec.{ltb}
+use borrow.Author.Tests.{lt-ltb, le-ltb, le-leb, lt-leb}
 use lib.ListN.{length, drop, drop-of-length-le}
 use Rattle.refusal.specs.declared.Refusal.{Refusal}
 use Rattle.refusal.specs.declared.Check.{Check}
 use Rattle.refusal.specs.declared.Check.the-variants.{Ok, Refused}
-use Rattle.refusal.specs.Check.{refusalAt, unlessGood}
+use Rattle.refusal.specs.Check.{refusalAt}
 use Rattle.decoder.specs.declared.Outcome.{Outcome}
 use Rattle.decoder.specs.declared.Decoded.{Decoded}
 use Rattle.decoder.specs.Listed.{listOn, listFrom, decodes}
-use Rattle.disasm.specs.Lines.{codeCheck, listingCheck}
-use Rattle.refusal.proofs.Laws.{never, or-left, or-right, good-is}
+use Rattle.function.specs.Code.{codeCheck, listingCheck}
+use Rattle.refusal.proofs.Laws.{never, or-left}
 use Rattle.graph.specs.Graph.{Finding, Claim, finding, markList}
 use Rattle.graph.specs.Graph.Finding.{closed, leaves}
 use Rattle.graph.specs.Right.{Answer}
@@ -25,9 +24,9 @@ use Rattle.steps.specs.Steps.{Source, listing, walkGraph}
 use Rattle.steps.specs.Ways.{searchGraph}
 use Rattle.steps.proofs.Same.{search-less, less-search, walk-good}
 use Rattle.walk.specs.declared.Walked.{Walked}
+use Rattle.walk.specs.Walk.{answer, walkCheck, walkFound, unless, walkSource, WalkedAs, Promise}
+use Rattle.walk.specs.mirror.Search.{Answered}
 use Rattle.walk.specs.declared.Walked.the-variants as walked
-use Rattle.walk.specs.Walk.{answer, roomCheck, walkCheck, walkFound, unless, walkSource, WalkedAs, Promise}
-use Rattle.walk.specs.Search.{Answered}
 
 -- a listing that no fault ended came to the code's end
 list-ends : (d : ℕ → Decoded) (f at : ℕ) → codeCheck (listFrom d f at .outcome) ≡ Ok → listFrom d f at .outcome ≡ Outcome.End

@@ -18,7 +18,7 @@ use Rattle.steps.specs.declared.Way.{Way}
 use Rattle.steps.specs.Steps.{Source}
 use Rattle.steps.specs.Ways.{stepAs, wayOf, waySteps, wayAt, searchGraph}
 use Rattle.walk.specs.declared.Setup.{Setup}
-use Rattle.walk.specs.Search.{Tabled, StartsAre}
+use Rattle.walk.specs.mirror.Search.{Tabled, StartsAre}
 
 -- a step by its number, of an instruction whose way is known
 pub step-is : (s : Source) (o k : ℕ) {w : Way} (r : Next) → stepAs r ≡ getElem? (waySteps (s .elem) w) k → w ≡ wayAt s o → stepAs r ≡ stepOf (searchGraph s) o k

@@ -7,21 +7,15 @@ use lib.ListN.{length}
 use Rattle.graph.specs.Queue.{Held}
 use Rattle.graph.proofs.Queues.{held-none}
 use Rattle.steps.proofs.Same.{search-lawful, search-first}
-use Rattle.walk.specs.Search.{sourceOf}
+use Rattle.walk.specs.mirror.Search.{sourceOf}
 use Rattle.walk.proofs.Answers.{searched}
 use borrow.Author.Needs.{needs}
 use Rattle.walk.proofs.search.Statement.{statement}
 use Rattle.walk.proofs.search.Tie as tie
-use Rattle.walk.proofs.search.Reads as reads
-use Rattle.walk.proofs.search.Lts as lts
-use Rattle.walk.proofs.clear.Reads as clear-reads
-use Rattle.walk.proofs.levels.Reads as levels-reads
 
--- src/lib.rt:331:5
 clear-requires : tie.Need-clear-requires
 clear-requires c κs = search needs
 
--- src/lib.rt:332:5
 levels-requires : tie.Need-levels-requires
 levels-requires c κs =
     let s = c .before .before .before .before .before .before .before .before .before .before .before .before .before .before .before in
@@ -34,15 +28,12 @@ levels-requires c κs =
       search-first (sourceOf (now (a .code)) (now (a .opcodes)) (now (a .types)) (now (a .slots)) (now (a .payload)) (a .setup)) (s .pre .5) (s .pre .1),
     )
 
--- src/lib.rt:316:1
 same-length : tie.Need-same-length
 same-length c = search needs
 
--- src/lib.rt:316:1
 same-length-2 : tie.Need-same-length-2
 same-length-2 c = search needs
 
--- src/lib.rt:316:1
 returns : tie.Need-returns
 returns c =
     let s = c .before .before .before .before .before .before .before .before .before .before .before .before .before .before .before .before .before .before .before .before in

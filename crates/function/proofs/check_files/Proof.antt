@@ -1,6 +1,6 @@
 use borrow.Author.Needs.{needs}
-use Rattle.disasm.proofs.check_files.Statement.{statement}
-use Rattle.disasm.proofs.check_files.Tie as tie
+use Rattle.function.proofs.check_files.Statement.{statement}
+use Rattle.function.proofs.check_files.Tie as tie
 
 check-table-requires : tie.Need-check-table-requires
 check-table-requires c κs = search needs

@@ -1,6 +1,6 @@
 use borrow.Author.Needs.{needs}
-use Rattle.disasm.proofs.table_check.Statement.{statement}
-use Rattle.disasm.proofs.table_check.Tie as tie
+use Rattle.function.proofs.table_check.Statement.{statement}
+use Rattle.function.proofs.table_check.Tie as tie
 
 enum-told : tie.Need-enum-told
 enum-told c = search needs

@@ -1,12 +1,12 @@
 use borrow.Author.Needs.{needs}
-use Rattle.jumps.proofs.check_owner.Statement.{statement}
-use Rattle.jumps.proofs.check_owner.Tie as tie
+use Rattle.function.proofs.check_pool_object.Statement.{statement}
+use Rattle.function.proofs.check_pool_object.Tie as tie
 
 enum-told : tie.Need-enum-told
 enum-told c = search needs
 
-enum-known-owner : tie.Need-enum-known-owner
-enum-known-owner c = search needs
+enum-known-object : tie.Need-enum-known-object
+enum-known-object c = search needs
 
 check-store-requires : tie.Need-check-store-requires
 check-store-requires c κs = search needs
@@ -21,14 +21,14 @@ returns : tie.Need-returns
 returns c = search needs
 
 returns-2 : tie.Need-returns-2
-returns-2 c = rw (c .before .before .before .before .owner .given .1, c .or-else .ensures, c .before .before .check-store .ensures, c .before .check-object .ensures)
+returns-2 c = rw (c .before .before .before .before .object .given .1, c .or-else .ensures, c .before .before .check-store .ensures, c .before .check-object .ensures)
 
-pub check-owner-spec : {M : Type 1} → statement M
-check-owner-spec =
+pub check-pool-object-spec : {M : Type 1} → statement M
+check-pool-object-spec =
     tie.close
     (tie.spec
     enum-told
-    enum-known-owner
+    enum-known-object
     check-store-requires
     check-object-requires
     or-else-requires

@@ -1,4 +1,5 @@
--- What the functions of the search promise one another.
+-- What the functions of the search promise one another, and the calls by the searches that the code makes: `searched` of proofs/Answers.antt and
+-- `walked-searched` of proofs/Searched.antt say that they are those of ../Walk.antt.
 use Prim.Native.Nat.{ℕ}
 use mathlib.Core.Path.{_≡_}
 use mathlib.Core.List.{List, map}
@@ -17,8 +18,9 @@ use Rattle.targets.specs.declared.Pool.{Pool}
 use Rattle.decoder.specs.Listed.{Listing}
 use Rattle.flow.specs.Flow.{Numbered}
 use Rattle.targets.specs.Targets.{poolSearched, found}
-use Rattle.disasm.specs.Lines.{codeCheck, listingCheck}
-use Rattle.disasm.specs.Listing.{Files, poolFound}
+use Rattle.function.specs.Files.{Files}
+use Rattle.function.specs.Code.{codeOf, headerCheck, codeCheck, listingCheck}
+use Rattle.function.specs.mirror.Pool.{poolFound}
 use Rattle.graph.specs.Lists.{elem}
 use Rattle.graph.specs.Graph.{Graph}
 use Rattle.graph.specs.Graph.Finding.{closed, leaves}
@@ -26,7 +28,7 @@ use Rattle.graph.specs.Right.{Answer}
 use Rattle.graph.proofs.Steps.{Lawful}
 use Rattle.steps.specs.Steps.{Source, offset}
 use Rattle.steps.specs.Ways.{searchGraph}
-use Rattle.walk.specs.Walk.{codeOf, headerCheck, unless, walkSource}
+use Rattle.walk.specs.Walk.{unless, walkSource}
 use Rattle.walk.specs.declared.Setup.{Setup}
 use Rattle.walk.specs.declared.Found.{Found}
 use Rattle.walk.specs.declared.Found.the-variants as found-as
@@ -85,4 +87,4 @@ headerFound f o = headerSearched (f .slots) (f .payload) o (layoutOf (f .layout)
 unfoldable pub walkSearched : Files → Object → List ℕ → Walked × List ℕ
 walkSearched f o marks =
     unless (headerCheck (headerFound f o)) marks
-    (walkSource (sourceBy (codeOf f (headerFound f o)) (f .opcodes) (f .types) (f .slots) (f .payload) (layoutOf (f .layout)) (poolFound f o)) marks)
+    (walkSource (sourceBy (codeOf f (headerFound f o)) (f .opcodes) (f .types) (f .slots) (f .payload) (layoutOf (f .layout)) (poolFound (f .objects) (f .slots) (layoutOf (f .layout)) o)) marks)

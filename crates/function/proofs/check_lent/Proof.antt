@@ -1,6 +1,6 @@
 use borrow.Author.Needs.{needs}
-use Rattle.jumps.proofs.check_lent.Statement.{statement}
-use Rattle.jumps.proofs.check_lent.Tie as tie
+use Rattle.function.proofs.check_lent.Statement.{statement}
+use Rattle.function.proofs.check_lent.Tie as tie
 
 slice-aggregate-check-table : tie.Need-slice-aggregate-check-table
 slice-aggregate-check-table c = search needs
@@ -11,8 +11,8 @@ slice-aggregate-check-table-2 c = search needs
 check-table-requires : tie.Need-check-table-requires
 check-table-requires c κs = search needs
 
-check-owner-requires : tie.Need-check-owner-requires
-check-owner-requires c κs = search needs
+check-pool-object-requires : tie.Need-check-pool-object-requires
+check-pool-object-requires c κs = search needs
 
 check-code-requires : tie.Need-check-code-requires
 check-code-requires c κs = search needs
@@ -24,7 +24,7 @@ or-else-requires-2 : tie.Need-or-else-requires-2
 or-else-requires-2 c κs = search needs
 
 returns : tie.Need-returns
-returns c = rw (c .or-else2 .ensures, c .before .before .before .before .check-table .ensures, c .before .or-else .ensures, c .before .before .before .check-owner .ensures, c .before .before .check-code .ensures)
+returns c = rw (c .or-else2 .ensures, c .before .before .before .before .check-table .ensures, c .before .or-else .ensures, c .before .before .before .check-pool-object .ensures, c .before .before .check-code .ensures)
 
 pub check-lent-spec : {M : Type 1} → statement M
 check-lent-spec =
@@ -33,7 +33,7 @@ check-lent-spec =
     slice-aggregate-check-table
     slice-aggregate-check-table-2
     check-table-requires
-    check-owner-requires
+    check-pool-object-requires
     check-code-requires
     or-else-requires
     or-else-requires-2

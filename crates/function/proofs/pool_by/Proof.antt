@@ -1,9 +1,9 @@
 use denote.Ref.{now}
-use Rattle.disasm.specs.Listing.{poolBy}
-use Rattle.disasm.proofs.Laws.{not-object}
+use Rattle.function.specs.Pool.{poolBy}
+use Rattle.function.proofs.Laws.{not-object}
 use borrow.Author.Needs.{needs}
-use Rattle.disasm.proofs.pool_by.Statement.{statement}
-use Rattle.disasm.proofs.pool_by.Tie as tie
+use Rattle.function.proofs.pool_by.Statement.{statement}
+use Rattle.function.proofs.pool_by.Tie as tie
 
 enum-known-found : tie.Need-enum-known-found
 enum-known-found c = search needs
