@@ -14,11 +14,13 @@ use Rattle.refusal.specs.Check.{orElse, unlessGood, firstBad}
 use Rattle.refusal.proofs.Laws.{or-left, or-right, good-is}
 use Rattle.store.specs.declared.Object.{Object}
 use Rattle.store.specs.Records.{objectOf, objectCount, slotCount}
-use Rattle.store.specs.Check.{sizesOk, badObject, badSlot, checkStore, Ordered}
+use Rattle.store.specs.Check.{sizesOk, badObject, badSlot, checkStore}
+use Rattle.store.specs.mirror.Ordered.{Ordered}
 use Rattle.store.proofs.Good.{good-ordered}
 use Rattle.serializer.specs.declared.Elem.{Elem}
 use Rattle.serializer.specs.declared.SlotAt.{SlotAt}
-use Rattle.serializer.specs.Slots.{slotAt, slotSearched}
+use Rattle.serializer.specs.Slots.{slotAt}
+use Rattle.serializer.specs.mirror.Search.{slotSearched}
 use Rattle.serializer.proofs.Searched.{elem-searched, slot-searched}
 use Rattle.tables.specs.declared.Layout.{Layout}
 use Rattle.tables.specs.Layout.{layoutOf}
@@ -29,7 +31,8 @@ use Rattle.header.specs.Header.{headerOf, headerSearched}
 use Rattle.header.proofs.Searched.{header-searched}
 use Rattle.decoder.specs.Listed.{listed}
 use Rattle.targets.specs.declared.Pool.{Pool}
-use Rattle.targets.specs.Targets.{poolElem, poolSearched, found}
+use Rattle.targets.specs.Targets.{poolElem, found}
+use Rattle.targets.specs.mirror.Search.{poolSearched}
 use Rattle.disasm.specs.Listing.{Files, listView, poolBy, listHeader, listWith, poolOf, poolFound, listObject, listSearched, checkFiles}
 use Rattle.serializer.specs.declared.SlotAt.the-variants as slot-at
 use Rattle.store.specs.declared.SlotValue.the-variants as value

@@ -16,7 +16,8 @@ use Rattle.store.specs.Check.{checkStore, checkCodeObject}
 use Rattle.serializer.specs.declared.SlotAt.{SlotAt}
 use Rattle.serializer.specs.declared.SlotAt.the-variants as slot-at
 use Rattle.serializer.specs.declared.Elem.{Elem}
-use Rattle.serializer.specs.Slots.{slotAt, slotSearched}
+use Rattle.serializer.specs.Slots.{slotAt}
+use Rattle.serializer.specs.mirror.Search.{slotSearched}
 use Rattle.tables.specs.declared.Layout.{Layout}
 use Rattle.tables.specs.Layout.{layoutOf}
 use Rattle.tables.specs.Check.{checkTable}
@@ -27,7 +28,8 @@ use Rattle.header.specs.Header.{headerOf, headerSearched}
 use Rattle.decoder.specs.Listed.{Listing, listed}
 use Rattle.targets.specs.declared.Pool.{Pool}
 use Rattle.targets.specs.declared.Pool.the-variants as pool
-use Rattle.targets.specs.Targets.{poolElem, poolSearched, found}
+use Rattle.targets.specs.Targets.{poolElem, found}
+use Rattle.targets.specs.mirror.Search.{poolSearched}
 use Rattle.lines.specs.Line.{View}
 use mathlib.Core.Path.{_≡_}
 use Rattle.text.specs.Put.{Put}

@@ -17,7 +17,8 @@ use Rattle.serializer.specs.declared.Smi.the-variants as smi
 use Rattle.serializer.specs.declared.RawAt.{RawAt}
 use Rattle.serializer.specs.declared.RawAt.the-variants as raw-at
 use Rattle.serializer.specs.declared.Span.{Span}
-use Rattle.serializer.specs.Field.{rawAt, rawSearched}
+use Rattle.serializer.specs.Field.{rawAt}
+use Rattle.serializer.specs.mirror.Search.{rawSearched}
 use Rattle.serializer.specs.Length.{smiField}
 use Rattle.serializer.specs.Offset.{rtOff}
 use Rattle.tables.specs.declared.Field.{Field}

@@ -11,7 +11,7 @@ use tables::Field;
 use tables::Layout;
 ghost use mathlib.Core.Path.{_≡_};
 ghost use mathlib.Core.Bool.{false};
-ghost use Rattle.serializer.specs.Field.{rawSearched};
+ghost use Rattle.serializer.specs.mirror.Search.{rawSearched};
 ghost use Rattle.serializer.specs.Length.{smiField};
 ghost use Rattle.serializer.specs.Calls.{checkAt};
 ghost use Rattle.header.specs.Header.{lengthOff, orZero, lengthBy, lengthOk, fieldBy, numberAt, paramCount, codeAt, headerWith, rtFor, rawFor, headerSearched};

@@ -11,7 +11,8 @@ use Rattle.tables.specs.Layout.{layoutOf}
 use Rattle.tables.specs.Check.{checkTable}
 use Rattle.bytecode.specs.Decode.{checkCode}
 use Rattle.targets.specs.declared.Pool.{Pool}
-use Rattle.targets.specs.Targets.{poolElem, poolSearched}
+use Rattle.targets.specs.Targets.{poolElem}
+use Rattle.targets.specs.mirror.Search.{poolSearched}
 use Rattle.disasm.specs.Listing.{Files, poolBy}
 use Rattle.refusal.proofs.Laws.{or-left, or-right}
 use Rattle.disasm.proofs.Searched.{ordered, pool-elems}

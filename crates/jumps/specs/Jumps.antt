@@ -10,7 +10,7 @@ use Rattle.refusal.specs.Check.{refusalAt, orElse}
 use Rattle.store.specs.Records.{objectOf}
 use Rattle.store.specs.Check.{checkStore, checkObject}
 use Rattle.serializer.specs.declared.Elem.{Elem}
-use Rattle.serializer.specs.Slots.{slotSearched}
+use Rattle.serializer.specs.mirror.Search.{slotSearched}
 use Rattle.tables.specs.declared.Layout.{Layout}
 use Rattle.tables.specs.Layout.{signedValue, layoutOf}
 use Rattle.tables.specs.Check.{checkTable}

@@ -17,7 +17,8 @@ use Rattle.store.specs.Records.{objectOf}
 use Rattle.store.specs.Check.{checkStore}
 use Rattle.serializer.specs.declared.Elem.{Elem}
 use Rattle.serializer.specs.declared.SlotAt.{SlotAt}
-use Rattle.serializer.specs.Slots.{slotAt, slotSearched}
+use Rattle.serializer.specs.Slots.{slotAt}
+use Rattle.serializer.specs.mirror.Search.{slotSearched}
 use Rattle.serializer.specs.declared.RawAt.{RawAt}
 use Rattle.serializer.specs.declared.RawAt.the-variants as raw-at
 use Rattle.serializer.proofs.Searched.{slot-searched}
@@ -30,7 +31,8 @@ use Rattle.header.specs.declared.HeaderAt.the-variants as header-at
 use Rattle.header.specs.Header.{lengthBy, lengthOk, codeAt, headerWith, headerBy, headerSearched}
 use Rattle.header.proofs.Searched.{header-searched}
 use Rattle.targets.specs.declared.Pool.{Pool}
-use Rattle.targets.specs.Targets.{poolSearched, found}
+use Rattle.targets.specs.Targets.{found}
+use Rattle.targets.specs.mirror.Search.{poolSearched}
 use Rattle.disasm.specs.Listing.{Files, poolBy, poolOf, poolFound, checkFiles}
 use Rattle.refusal.proofs.Laws.{or-left, or-right, good-is}
 use Rattle.disasm.proofs.Searched.{ordered, pool-elems}

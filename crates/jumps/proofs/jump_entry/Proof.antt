@@ -7,7 +7,8 @@ use Rattle.disasm.specs.Listing.{Files}
 use Rattle.serializer.specs.declared.Elem.{Elem}
 use Rattle.decoder.specs.declared.Decoded.{Decoded}
 use Rattle.targets.specs.declared.Pool.{Pool}
-use Rattle.targets.specs.Targets.{poolSearched, found, here}
+use Rattle.targets.specs.Targets.{found, here}
+use Rattle.targets.specs.mirror.Search.{poolSearched}
 use Rattle.jumps.specs.declared.TableAt.{TableAt}
 use Rattle.jumps.specs.Jumps.{ownerPool, ownerFound, ownerElem, decodedAt, tableOf, tableCall, entryOf, entryCall}
 use Rattle.jumps.proofs.Laws.{lent-pool, lent-elems}

@@ -5,7 +5,7 @@ use denote.Ref.{now}
 use Rattle.tables.specs.declared.Layout.{Layout}
 use Rattle.disasm.specs.Listing.{Files}
 use Rattle.serializer.specs.declared.Elem.{Elem}
-use Rattle.targets.specs.Targets.{poolSearched}
+use Rattle.targets.specs.mirror.Search.{poolSearched}
 use Rattle.jumps.specs.Jumps.{ownerFound, ownerElem, targetOf, targetCall}
 use Rattle.jumps.proofs.Laws.{lent-elems}
 use borrow.Author.Needs.{needs}
