@@ -15,7 +15,8 @@ use Rattle.flow.specs.Flow.{flowOf}
 use lib.IntN.{ℤ}
 use Rattle.tables.specs.declared.Frame.{Frame}
 use Rattle.targets.specs.declared.Pool.{Pool}
-use Rattle.targets.specs.Targets.{jumpTable, found, poolSearched}
+use Rattle.targets.specs.Targets.{jumpTable, found}
+use Rattle.targets.specs.mirror.Search.{poolSearched}
 use Rattle.lines.specs.Line.{View, lineText}
 use Rattle.lines.proofs.Written.{Written, written-none, written-more, written-all, written-kept}
 use Rattle.function.specs.Code.{tableCheck}

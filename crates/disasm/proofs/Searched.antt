@@ -11,10 +11,11 @@ use Rattle.tables.specs.declared.Layout.{Layout}
 use Rattle.tables.specs.Layout.{layoutOf}
 use Rattle.header.specs.declared.Header.{Header}
 use Rattle.header.specs.declared.HeaderAt.{HeaderAt}
-use Rattle.header.specs.Header.{headerSearched}
+use Rattle.header.specs.mirror.Header.{headerSearched}
 use Rattle.decoder.specs.Listed.{listed}
 use Rattle.targets.specs.declared.Pool.{Pool}
-use Rattle.targets.specs.Targets.{poolSearched, found}
+use Rattle.targets.specs.Targets.{found}
+use Rattle.targets.specs.mirror.Search.{poolSearched}
 use Rattle.function.specs.Files.{Files, checkFiles}
 use Rattle.function.specs.Pool.{poolOf}
 use Rattle.function.specs.Code.{headerAt}

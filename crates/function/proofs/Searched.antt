@@ -14,7 +14,8 @@ use Rattle.refusal.specs.Check.{orElse, unlessGood, firstBad}
 use Rattle.refusal.proofs.Laws.{or-left, or-right, good-is}
 use Rattle.store.specs.declared.Object.{Object}
 use Rattle.store.specs.Records.{objectOf, objectCount, slotCount}
-use Rattle.store.specs.Check.{sizesOk, badObject, badSlot, checkStore, Ordered}
+use Rattle.store.specs.Check.{sizesOk, badObject, badSlot, checkStore}
+use Rattle.store.specs.mirror.Ordered.{Ordered}
 use Rattle.store.proofs.Good.{good-ordered}
 use Rattle.serializer.specs.declared.SlotAt.{SlotAt}
 use Rattle.serializer.specs.declared.SlotAt.the-variants as slot-at
@@ -24,11 +25,12 @@ use Rattle.store.specs.declared.SlotValue.the-variants as value
 use Rattle.tables.specs.declared.Layout.{Layout}
 use Rattle.tables.specs.Layout.{layoutOf}
 use Rattle.tables.specs.Check.{checkTable}
-use Rattle.header.specs.Header.{headerSearched}
+use Rattle.header.specs.mirror.Header.{headerSearched}
 use Rattle.header.proofs.Searched.{header-searched}
 use Rattle.bytecode.specs.Decode.{checkCode}
 use Rattle.targets.specs.declared.Pool.{Pool}
-use Rattle.targets.specs.Targets.{poolElem, poolSearched}
+use Rattle.targets.specs.Targets.{poolElem}
+use Rattle.targets.specs.mirror.Search.{poolSearched}
 use Rattle.function.specs.declared.PoolObject.{PoolObject}
 use Rattle.function.specs.declared.PoolObject.the-variants as pool-object
 use Rattle.function.specs.Files.{Files, checkFiles, checkPoolObject, checkLent}

@@ -7,9 +7,9 @@ use mathlib.Core.Logic.{_↔_}
 use native.Mathlib.Omega.{arith}
 use lib.ListN.{length, getD}
 use lib.Seq.{ext-getD}
-use Rattle.graph.specs.Graph.{Graph, Reach, Finding, marked, bits, markList}
+use Rattle.graph.specs.Graph.{Graph, Reach, Finding, marked, bits}
 use Rattle.graph.specs.Graph.Finding.{closed, leaves}
-use Rattle.graph.specs.Right.{Marked}
+use Rattle.graph.specs.mirror.Right.{Marked}
 use Rattle.graph.proofs.Levels.{reached-sound, reached-complete}
 use Rattle.graph.proofs.Bound.{bounded}
 
@@ -44,7 +44,3 @@ bits-at p n k h = bits-from p 0 n k h ∙ ap (λ (j : ℕ). cond (p j) 1 0) (ome
 -- a list with the bits of p at its n places
 pub bits-are : (p : ℕ → Bool) (n : ℕ) (M : List ℕ) → length M ≡ n → ((k : ℕ) → k < n → getD M k 0 ≡ cond (p k) 1 0) → M ≡ bits p 0 n
 bits-are p n M len all = ext-getD 0 M (bits p 0 n) (len ∙ sym (bits-length p 0 n)) (λ k h. all k (omega arith) ∙ sym (bits-at p n k (omega arith)))
-
-pub marks-length : (g : Graph) (f : Finding) (n : ℕ) → length (markList g f n) ≡ n
-unfolding markList
-marks-length g f n = bits-length (marked g f) 0 n

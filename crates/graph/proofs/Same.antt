@@ -12,7 +12,7 @@ use Rattle.graph.specs.Graph.Step.{To, NoTarget}
 use Rattle.graph.specs.Graph.Reach.{here, next}
 use Rattle.graph.specs.Graph.Leaving.{leave}
 use Rattle.graph.specs.Graph.Finding.{closed, leaves}
-use Rattle.graph.specs.Right.{Mark, Marked, Answer}
+use Rattle.graph.specs.mirror.Right.{Mark, Marked, Answer}
 use Rattle.graph.proofs.Levels.{reach-start}
 
 -- g has the starts of g′, and from each of them does nothing that g′ does not, by whatever steps

@@ -13,7 +13,7 @@ use Rattle.laws.proofs.Tests.{clash, under?}
 use Rattle.graph.specs.Lists.{any}
 use Rattle.graph.specs.Graph.{Graph, Step, isStart, stepLeaves, isTo, Succ, exits}
 use Rattle.graph.specs.Graph.Step.{To, NoTarget}
-use Rattle.graph.specs.Queue.{stepOf, Grown}
+use Rattle.graph.specs.mirror.Queue.{stepOf, Grown}
 use Rattle.graph.proofs.Lists.{none-some, at-among, among-at, none-among}
 use Rattle.graph.proofs.Queues.{grown-same, grown-join}
 

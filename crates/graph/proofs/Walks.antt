@@ -11,8 +11,8 @@ use Rattle.laws.proofs.Tests.{clash, under?}
 use Rattle.graph.specs.Graph.{Graph, isStart, Succ, Reach, Leaving, exits}
 use Rattle.graph.specs.Graph.Reach.{here, next}
 use Rattle.graph.specs.Graph.Leaving.{leave}
-use Rattle.graph.specs.Queue.{In, Held, Grown, SuccIn, Quiet, LowestAt}
-use Rattle.graph.specs.Right.{IsClosed, IsLeaving}
+use Rattle.graph.specs.mirror.Queue.{In, Held, Grown, SuccIn, Quiet, LowestAt}
+use Rattle.graph.specs.mirror.Right.{IsClosed, IsLeaving}
 use Rattle.graph.proofs.Levels.{exits-sound, exits-complete}
 use Rattle.graph.proofs.Queues.{In-kept, mark-of}
 

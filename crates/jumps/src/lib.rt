@@ -13,7 +13,8 @@ use targets::Target;
 ghost use mathlib.Core.Path.{_≡_};
 ghost use mathlib.Core.List.{[]};
 ghost use Rattle.flow.specs.Flow.{flowOf};
-ghost use Rattle.targets.specs.Targets.{poolSearched, found};
+ghost use Rattle.targets.specs.Targets.{found};
+ghost use Rattle.targets.specs.mirror.Search.{poolSearched};
 ghost use Rattle.jumps.specs.Jumps.{targetTold, targetOf, targetCall, tableTold, tableOf, tableCall, entryTold, entryIn, entryOf, entryCall};
 
 // Where a jump goes. End is the code's end; Nothing is no target.

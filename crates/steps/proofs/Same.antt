@@ -38,7 +38,7 @@ use Rattle.targets.specs.declared.Table.{Table}
 use Rattle.targets.specs.declared.Table.the-variants as table
 use Rattle.steps.specs.declared.Way.{Way}
 use Rattle.steps.specs.Steps.{Source, entrySteps, entriesSteps, tableSteps, stepsBy, instrSteps, stepsAt, listing, offset, walkGraph}
-use Rattle.steps.specs.Ways.{entryStep, entryWays, tableWays, waysBy, waySteps, wayOf, wayAt, searchGraph}
+use Rattle.steps.specs.mirror.Ways.{entryStep, entryWays, tableWays, waysBy, waySteps, wayOf, wayAt, searchGraph}
 
 -- ---- the steps of one instruction
 module _ (el : ℕ → Elem) (at : ℕ) (s : Entries) (e : ℕ) where

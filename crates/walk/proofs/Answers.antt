@@ -16,12 +16,12 @@ use Rattle.function.specs.Code.{codeCheck, listingCheck}
 use Rattle.refusal.proofs.Laws.{never, or-left}
 use Rattle.graph.specs.Graph.{Finding, Claim, finding, markList}
 use Rattle.graph.specs.Graph.Finding.{closed, leaves}
-use Rattle.graph.specs.Right.{Answer}
+use Rattle.graph.specs.mirror.Right.{Answer}
 use Rattle.graph.proofs.Findings.{finding-meets}
 use Rattle.graph.proofs.Answers.{found}
 use Rattle.graph.proofs.Same.{answer-same}
 use Rattle.steps.specs.Steps.{Source, listing, walkGraph}
-use Rattle.steps.specs.Ways.{searchGraph}
+use Rattle.steps.specs.mirror.Ways.{searchGraph}
 use Rattle.steps.proofs.Same.{search-less, less-search, walk-good}
 use Rattle.walk.specs.declared.Walked.{Walked}
 use Rattle.walk.specs.Walk.{answer, walkCheck, walkFound, unless, walkSource, WalkedAs, Promise}

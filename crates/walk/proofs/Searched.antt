@@ -21,9 +21,11 @@ use Rattle.tables.specs.Layout.{layoutOf}
 use Rattle.tables.specs.Check.{checkTable}
 use Rattle.header.specs.declared.Header.{Header}
 use Rattle.header.specs.declared.HeaderAt.{HeaderAt}
-use Rattle.header.specs.Header.{lengthBy, lengthOk, codeAt, headerWith, headerBy, headerSearched}
+use Rattle.header.specs.Header.{lengthBy, lengthOk, codeAt, headerWith, headerBy}
+use Rattle.header.specs.mirror.Header.{headerSearched}
 use Rattle.targets.specs.declared.Pool.{Pool}
-use Rattle.targets.specs.Targets.{poolSearched, found}
+use Rattle.targets.specs.Targets.{found}
+use Rattle.targets.specs.mirror.Search.{poolSearched}
 use Rattle.refusal.proofs.Laws.{or-right, good-is}
 use Rattle.bytecode.specs.Decode.{checkCode}
 use Rattle.function.specs.declared.PoolObject.{PoolObject}

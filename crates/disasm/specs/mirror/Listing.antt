@@ -9,10 +9,11 @@ use Rattle.store.specs.declared.Object.{Object}
 use Rattle.tables.specs.declared.Layout.{Layout}
 use Rattle.tables.specs.Layout.{layoutOf}
 use Rattle.header.specs.declared.Header.{Header}
-use Rattle.header.specs.Header.{headerSearched}
+use Rattle.header.specs.mirror.Header.{headerSearched}
 use Rattle.decoder.specs.Listed.{Listing, listed}
 use Rattle.targets.specs.declared.Pool.{Pool}
-use Rattle.targets.specs.Targets.{poolSearched, found}
+use Rattle.targets.specs.Targets.{found}
+use Rattle.targets.specs.mirror.Search.{poolSearched}
 use Rattle.lines.specs.Line.{View}
 use Rattle.function.specs.Files.{Files}
 use Rattle.function.specs.Code.{codeCheck, listingCheck}

@@ -3,7 +3,7 @@ use Prim.Native.Nat.{ℕ}
 use mathlib.Core.List.{List}
 use Rattle.store.specs.declared.Object.{Object}
 use Rattle.store.specs.Records.{objectOf}
-use Rattle.serializer.specs.Slots.{slotSearched}
+use Rattle.serializer.specs.mirror.Search.{slotSearched}
 use Rattle.tables.specs.declared.Layout.{Layout}
 use Rattle.targets.specs.declared.Pool.{Pool}
 use Rattle.targets.specs.declared.Pool.the-variants as pool

@@ -7,7 +7,8 @@ use Rattle.function.specs.Files.{Files}
 use Rattle.serializer.specs.declared.Elem.{Elem}
 use Rattle.decoder.specs.declared.Decoded.{Decoded}
 use Rattle.targets.specs.declared.Pool.{Pool}
-use Rattle.targets.specs.Targets.{poolSearched, found, here}
+use Rattle.targets.specs.Targets.{found, here}
+use Rattle.targets.specs.mirror.Search.{poolSearched}
 use Rattle.jumps.specs.declared.TableAt.{TableAt}
 use Rattle.function.specs.mirror.Pool.{lentFound}
 use Rattle.function.specs.Pool.{lentPool, lentElem}

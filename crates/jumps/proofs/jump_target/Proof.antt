@@ -5,7 +5,7 @@ use denote.Ref.{now}
 use Rattle.tables.specs.declared.Layout.{Layout}
 use Rattle.function.specs.Files.{Files}
 use Rattle.serializer.specs.declared.Elem.{Elem}
-use Rattle.targets.specs.Targets.{poolSearched}
+use Rattle.targets.specs.mirror.Search.{poolSearched}
 use Rattle.function.specs.mirror.Pool.{lentFound}
 use Rattle.function.specs.Pool.{lentElem}
 use Rattle.jumps.specs.Jumps.{targetOf, targetCall}

@@ -4,9 +4,9 @@ use mathlib.Core.Path.{_≡_, sym, ap, _∙_}
 use native.Mathlib.Omega.{arith}
 use denote.Ref.{now}
 use lib.ListN.{length}
-use Rattle.graph.specs.Queue.{stepOf}
+use Rattle.graph.specs.mirror.Queue.{stepOf}
 use Rattle.graph.proofs.Steps.{ExitsFrom, exits-start, exits-done, exits-none, exits-off, exits-more, within}
-use Rattle.steps.specs.Ways.{stepAs}
+use Rattle.steps.specs.mirror.Ways.{stepAs}
 use Rattle.walk.specs.mirror.Search.{sourceOf, graphOf}
 use Rattle.walk.proofs.Laws.{step-is, start-yes, start-no}
 use Rattle.graph.specs.Graph.{Graph}

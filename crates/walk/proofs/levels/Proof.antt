@@ -5,7 +5,7 @@ use borrow.Author.Needs.{needs}
 use denote.Ref.{now}
 use lib.ListN.{length}
 use Rattle.graph.specs.Graph.{Graph}
-use Rattle.graph.specs.Queue.{Lowest}
+use Rattle.graph.specs.mirror.Queue.{Lowest}
 use Rattle.graph.proofs.Queues.{held-le}
 use Rattle.graph.proofs.Walks.{Level, level-start, level-next, level-leaves, level-closed}
 use Rattle.walk.specs.declared.Found.{Found}

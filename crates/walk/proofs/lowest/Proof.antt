@@ -5,7 +5,7 @@ use native.Mathlib.Omega.{arith}
 use borrow.Author.Needs.{needs}
 use denote.Ref.{now}
 use Rattle.graph.specs.Graph.{Graph}
-use Rattle.graph.specs.Queue.{Lowest}
+use Rattle.graph.specs.mirror.Queue.{Lowest}
 use Rattle.graph.proofs.Scan.{lowest-found, lowest-passed}
 use Rattle.walk.specs.mirror.Search.{graphOf, foundAs}
 use Rattle.walk.proofs.lowest.Statement.{statement}

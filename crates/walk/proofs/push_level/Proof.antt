@@ -6,7 +6,7 @@ use borrow.Author.Needs.{needs}
 use denote.Ref.{now}
 use lib.ListN.{length}
 use Rattle.graph.specs.Graph.{Graph, exits}
-use Rattle.graph.specs.Queue.{Grown, SuccIn}
+use Rattle.graph.specs.mirror.Queue.{Grown, SuccIn}
 use Rattle.graph.proofs.Queues.{grown-none, held-le}
 use Rattle.graph.proofs.Scan.{level-more}
 use Rattle.walk.specs.mirror.Search.{graphOf}

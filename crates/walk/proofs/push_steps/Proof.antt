@@ -5,10 +5,10 @@ use borrow.Author.Needs.{needs}
 use denote.Ref.{now}
 use lib.ListN.{length}
 use Rattle.graph.specs.Graph.{Graph}
-use Rattle.graph.specs.Queue.{Grown, stepOf}
+use Rattle.graph.specs.mirror.Queue.{Grown, stepOf}
 use Rattle.graph.proofs.Queues.{grown-none}
 use Rattle.graph.proofs.Steps.{Before, grown-done, grown-more, quiet-none, quiet-to, within}
-use Rattle.steps.specs.Ways.{stepAs}
+use Rattle.steps.specs.mirror.Ways.{stepAs}
 use Rattle.walk.specs.mirror.Search.{sourceOf, graphOf}
 use Rattle.walk.proofs.Laws.{step-is}
 use Rattle.walk.proofs.push_steps.Statement.{statement}

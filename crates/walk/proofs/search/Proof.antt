@@ -4,7 +4,7 @@ use Prim.Native.Nat.{ℕ}
 use native.Mathlib.Omega.{arith}
 use denote.Ref.{now}
 use lib.ListN.{length}
-use Rattle.graph.specs.Queue.{Held}
+use Rattle.graph.specs.mirror.Queue.{Held}
 use Rattle.graph.proofs.Queues.{held-none}
 use Rattle.steps.proofs.Same.{search-lawful, search-first}
 use Rattle.walk.specs.mirror.Search.{sourceOf}

@@ -1,4 +1,4 @@
-use Rattle.steps.specs.Ways.{searchGraph}
+use Rattle.steps.specs.mirror.Ways.{searchGraph}
 use mathlib.Core.Path.{sym, ap, _∙_}
 use Prim.Native.Nat.{ℕ}
 use native.Mathlib.Omega.{arith}

@@ -13,21 +13,22 @@ use Rattle.tables.specs.Records.{prefixOp}
 use Rattle.tables.specs.declared.Layout.{Layout}
 use Rattle.tables.specs.Layout.{layoutOf}
 use Rattle.header.specs.declared.HeaderAt.{HeaderAt}
-use Rattle.header.specs.Header.{headerSearched}
+use Rattle.header.specs.mirror.Header.{headerSearched}
 use Rattle.targets.specs.declared.Pool.{Pool}
 use Rattle.decoder.specs.Listed.{Listing}
 use Rattle.flow.specs.Flow.{Numbered}
-use Rattle.targets.specs.Targets.{poolSearched, found}
+use Rattle.targets.specs.Targets.{found}
+use Rattle.targets.specs.mirror.Search.{poolSearched}
 use Rattle.function.specs.Files.{Files}
 use Rattle.function.specs.Code.{codeOf, headerCheck, codeCheck, listingCheck}
 use Rattle.function.specs.mirror.Pool.{poolFound}
 use Rattle.graph.specs.Lists.{elem}
 use Rattle.graph.specs.Graph.{Graph}
 use Rattle.graph.specs.Graph.Finding.{closed, leaves}
-use Rattle.graph.specs.Right.{Answer}
+use Rattle.graph.specs.mirror.Right.{Answer}
 use Rattle.graph.proofs.Steps.{Lawful}
 use Rattle.steps.specs.Steps.{Source, offset}
-use Rattle.steps.specs.Ways.{searchGraph}
+use Rattle.steps.specs.mirror.Ways.{searchGraph}
 use Rattle.walk.specs.Walk.{unless, walkSource}
 use Rattle.walk.specs.declared.Setup.{Setup}
 use Rattle.walk.specs.declared.Found.{Found}

@@ -1,3 +1,4 @@
+-- Laws `level-leaves`, `level-closed` (proofs/Walks.antt): from these the search has its `Answer`. No contract of a call cites them.
 -- What the functions of a breadth-first search keep among themselves: marks M, a queue q and the number k of its entries that count.
 --     stepOf g o k         the k-th step from o, and none past the last
 --     In q k p             p is among the first k entries

@@ -1,4 +1,5 @@
--- What the search for falls writes down. No public contract cites it.
+-- Laws `level`, `fall-far`, `fall-behind` (proofs/Falls.antt, Parts.antt): by it `fallsIn` is found. No contract of a call cites it.
+-- What the search for falls writes down.
 use Prim.Native.Nat.{ℕ, _-_, _*_, _<_, _≤_}
 use mathlib.Core.Path.{_≡_}
 use mathlib.Core.Bool.{Bool}

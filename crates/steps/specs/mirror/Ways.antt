@@ -1,5 +1,5 @@
--- The same steps as the code goes through them: one for each entry of a switch, where one that is skipped goes to e, as the last step does.
--- proofs/Same.antt: from each start the steps are those of `walkGraph`.
+-- Laws `search-less`, `less-search` (proofs/Same.antt): from each start the steps of `searchGraph` are those of `walkGraph`.
+-- The steps as the code goes through them: one for each entry of a switch, where one that is skipped goes to e, as the last step does.
 use Prim.Native.Nat.{ℕ, zero, suc, _+_}
 use mathlib.Core.Bool.{Bool, cond}
 use mathlib.Core.List.{List, [], _∷_, map}

@@ -1,4 +1,5 @@
--- What the breadth-first search promises of its answer and its marks. proofs/Answers.antt: then they are `finding` and `markList`.
+-- Law `found` (proofs/Answers.antt): an `Answer` is `finding`, with the marks of `markList`. No contract of a call cites it.
+-- What the breadth-first search promises of its answer and its marks.
 use Prim.Native.Nat.{ℕ, _<_}
 use mathlib.Core.Path.{_≡_}
 use mathlib.Core.List.{List}
