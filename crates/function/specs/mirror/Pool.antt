@@ -1,4 +1,4 @@
--- The pools by the search that the code makes: proofs/Searched.antt, `pool-found` and `lent-found`, say that on checked files they are those of ../Pool.antt.
+-- The pools by the search that the code makes: proofs/Searched.antt, `pool-found` and `lent-pool`, say that on checked files they are those of ../Pool.antt.
 use Prim.Native.Nat.{ℕ}
 use mathlib.Core.List.{List}
 use Rattle.store.specs.declared.Object.{Object}
