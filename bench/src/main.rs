@@ -2,6 +2,9 @@
 //!
 //!   bench FOLDER [ROUNDS]        all functions of a folder of listings, then how cost grows with the code
 //!   bench once ours|rust FOLDER  each function once, for a count of instructions by valgrind
+//!   bench worst                  the worst cases within document 01's limits
+
+mod worst;
 
 use jscd_capi as ours;
 use oracle::port::{Port, STORE, TABLE};
@@ -20,13 +23,14 @@ fn main() -> ExitCode {
     let args: Vec<String> = std::env::args().skip(1).collect();
     let args: Vec<&str> = args.iter().map(String::as_str).collect();
     let done = match args.as_slice() {
+        ["worst"] => worst::report(),
         ["once", which @ ("ours" | "rust"), folder] => once(which, Path::new(folder)),
         [folder] => whole(Path::new(folder), ROUNDS),
         [folder, rounds] => match rounds.parse() {
             Ok(rounds) if rounds > 0 => whole(Path::new(folder), rounds),
             _ => Err(format!("not a number of rounds: {rounds}")),
         },
-        _ => Err("usage: bench FOLDER [ROUNDS]; bench once ours|rust FOLDER".into()),
+        _ => Err("usage: bench FOLDER [ROUNDS]; bench once ours|rust FOLDER; bench worst".into()),
     };
     match done {
         Ok(()) => ExitCode::SUCCESS,
@@ -71,7 +75,11 @@ struct Room {
 
 impl Room {
     fn new() -> Room {
-        Room { bytes: vec![0; 1 << 23], text: String::with_capacity(1 << 23) }
+        Room::of(1 << 23)
+    }
+
+    fn of(size: usize) -> Room {
+        Room { bytes: vec![0; size], text: String::with_capacity(size) }
     }
 
     /// The whole call: all checks of the eight files, and the listing.
@@ -127,9 +135,14 @@ fn agree(files: &Files, name: &str) -> Result<(), String> {
     let size = ours::list(&lent(files), 0, &mut room.bytes).map_err(|r| format!("{name}: {r}"))?;
     let port = Port::new(files, TABLE | STORE)?;
     room.rust(&port);
-    let lines = room.text.lines().skip(1).take_while(|l| !l.starts_with("Constant pool"));
-    let said: String = lines.map(|l| format!("{l}\n")).collect();
-    match said.as_bytes() == &room.bytes[..size] {
+    alike(&room, size, name)
+}
+
+/// The room's bytes, so many of them, are its text between the line that names the function and the pool.
+fn alike(room: &Room, size: usize, name: &str) -> Result<(), String> {
+    let lines = room.text.find('\n').map_or("", |end| &room.text[end + 1..]);
+    let end = lines.find("\nConstant pool").map_or(lines.len(), |end| end + 1);
+    match &lines.as_bytes()[..end] == &room.bytes[..size] {
         true => Ok(()),
         false => Err(format!("{name}: our listing is not the Rust's")),
     }

@@ -2,7 +2,7 @@
 
 use crate::checks::{self, Refusal};
 use crate::decode;
-use crate::port::{bit, Port, STORE, TABLE};
+use crate::port::{self, bit, Port, STORE, TABLE};
 use crate::records::*;
 use crate::walks::{self, Outcome, Walked};
 use jscd::bytecode::{Instr, Operand};
@@ -151,6 +151,9 @@ pub const WALK: usize = 19;
 pub const WALK_CODE: usize = 20;
 pub const WALK_LAST_BYTES: usize = 21;
 pub const LONG_LISTING: usize = 22;
+pub const HEADER: usize = 23;
+pub const JUMP_ENTRY: usize = 24;
+pub const SLOT_RECORDS: usize = 25;
 
 macro_rules! function {
     ($name:literal, $args:expr, $lent:expr) => {
@@ -162,7 +165,7 @@ macro_rules! function {
 }
 
 /// By number. New functions go behind.
-pub const FUNCTIONS: [Function; 23] = [
+pub const FUNCTIONS: [Function; 26] = [
     function!("listing", [], TABLE | STORE, listing),
     function!("raw_at", ["object", "offset", "length"], READS, raw_at),
     function!("array_len", ["object"], READS, array_len),
@@ -186,10 +189,25 @@ pub const FUNCTIONS: [Function; 23] = [
     function!("walk_code", ["object", "marks"], ON_CODE, walk_code),
     function!("walk_last_bytes", ["object", "prefixes"], ON_CODE, walk_last_bytes),
     function!("long_listing", [], TABLE | STORE, listing),
+    function!("header", ["object"], READS, header),
+    function!("jump_entry", ["object", "start", "entry"], ON_CODE, jump_entry),
+    function!("slot_records", [], STORE, slot_records),
 ];
 
 /// Functions whose first argument is the object that lends its pool, or none.
-const POOL_LENT: [usize; 4] = [JUMP_TARGET, JUMP_TABLE, WALK_CODE, WALK_LAST_BYTES];
+const POOL_LENT: [usize; 5] = [JUMP_TARGET, JUMP_TABLE, WALK_CODE, WALK_LAST_BYTES, JUMP_ENTRY];
+
+/// The files that a call is lent, as bits.
+pub fn lent(call: &Call) -> u8 {
+    let pool = POOL_LENT.contains(&call.function) && call.args[0] != NO_OBJECT;
+    FUNCTIONS[call.function].lent | if pool { STORE } else { 0 }
+}
+
+/// Whether a call is lent code.
+pub fn lends_code(call: &Call) -> bool {
+    matches!(FUNCTIONS[call.function].lent, ON_CODE)
+        || matches!(call.function, RENDER_OPERAND | INSTRUCTION_TEXT)
+}
 
 /// An error is a call that cannot be asked: wrong arguments, or not comparable.
 pub fn ask(files: &Files, code: &[u8], call: &Call) -> Result<Answer, String> {
@@ -197,10 +215,7 @@ pub fn ask(files: &Files, code: &[u8], call: &Call) -> Result<Answer, String> {
     if call.args.len() != function.args.len() {
         return Err(format!("{} takes {}", function.name, function.args.join(", ")));
     }
-    let mut lent = function.lent;
-    if POOL_LENT.contains(&call.function) && call.args[0] != NO_OBJECT {
-        lent |= STORE;
-    }
+    let lent = lent(call);
     if let Err(refusal) = checks::table(files, lent).and_then(|_| store_check(files, lent, call)) {
         return Ok(Answer::Refused(refusal));
     }
@@ -264,6 +279,23 @@ impl<'a> Lent<'a> {
         let function = self.pool_lent()?;
         Ok((function, decode::checked(&self.port, self.code, self.call.args[1])?))
     }
+}
+
+/// The header of an object: the numbers that `render_sfi` writes in its first lines, and where in the payload the code is.
+fn header(lent: &Lent) -> Result<Answer, Refusal> {
+    let function = checks::function(lent.files, lent.call.args[0])?;
+    checks::code_length(lent.port.code_length(function))?;
+    let port = Port::of_any_code(lent.files, READS, function);
+    let mut whole = String::new();
+    port.disassembler()
+        .open_render_sfi(port.shared_function_info(), "", &mut whole)
+        .expect("any code decodes");
+    let last_words = whole.lines().skip(1).take(6).map(|l| l.rsplit(' ').next().unwrap_or(""));
+    let mut out: Vec<Word> = last_words.map(|n| Word::S(n.parse().expect("a number"))).collect();
+    let code = port.code_part(function);
+    out.push(Word::U(code.map_or(0, |part| port.place(part))));
+    out.push(Word::U(code.map_or(0, |part| part.len() as u64)));
+    Ok(words(out))
 }
 
 /// The listing of object 0: header and instruction lines of `render_sfi`.
@@ -363,6 +395,35 @@ fn jump_table(lent: &Lent) -> Result<Answer, Refusal> {
         out.extend([Word::S(case as i64), Word::U(target as u64)]);
     }
     Ok(words(out))
+}
+
+/// One entry of a table: 0 with case and target, 1 skipped, 2 beyond the table. The Rust leaves skipped entries out, so it
+/// is asked for the tables that end before this entry and behind it.
+fn jump_entry(lent: &Lent) -> Result<Answer, Refusal> {
+    let (function, Some(ins)) = lent.jump()? else {
+        return Ok(Answer::End);
+    };
+    checks::switch(&lent.port, function, &ins)?;
+    let entries = |ins: &Instr| lent.port.disassembler().open_jump_table(function, ins);
+    if entries(&ins).is_none() {
+        return Ok(Answer::Nothing);
+    }
+    let (place, count) = checks::entry_count(&ins).expect("a table has a count");
+    let k = lent.call.args[2];
+    if k >= count as u64 {
+        return Ok(words(vec![Word::U(2)]));
+    }
+    let first = |n: u64| {
+        let mut ins = ins.clone();
+        ins.operands[place] = Operand::Idx(n as u32);
+        entries(&ins).expect("a shorter table")
+    };
+    Ok(words(match first(k + 1).get(first(k).len()) {
+        Some((case, target)) => {
+            vec![Word::U(0), Word::S(*case as i64), Word::U(*target as u64)]
+        }
+        None => vec![Word::U(1)],
+    }))
 }
 
 fn max_register(lent: &Lent) -> Result<Answer, Refusal> {
@@ -494,6 +555,17 @@ fn slot_at(lent: &Lent) -> Result<Answer, Refusal> {
     let object = lent.object()?;
     let found = lent.number(1).and_then(|slot| lent.port.cache.slot_at(object, slot));
     Ok(found.map_or(Answer::Nothing, |v| words(slot_words(v).map(Word::U).to_vec())))
+}
+
+/// Index and value of every slot record, in order.
+fn slot_records(lent: &Lent) -> Result<Answer, Refusal> {
+    let mut out = Vec::new();
+    for slot in lent.files.all(SLOTS).map(Slot::read) {
+        let slot = port::slot(slot);
+        out.push(Word::U(slot.index as u64));
+        out.extend(slot_words(&slot.value).map(Word::U));
+    }
+    Ok(words(out))
 }
 
 /// Kind, number or offset, length, repeat count, inner kind.

@@ -223,15 +223,15 @@ pub fn start(code: &[u8], place: u64) -> Result<usize, Refusal> {
 /// `function` is the object whose pool is meant.
 pub fn switch(port: &Port, function: usize, ins: &Instr) -> Check {
     match entry_count(ins) {
-        Some(count) if port.pool(function).is_some() => {
+        Some((_, count)) if port.pool(function).is_some() => {
             expect((0..=MOST_ENTRIES).contains(&count), 16, ins.offset)
         }
         _ => Ok(()),
     }
 }
 
-/// The entry count of an unprefixed switch whose operands are of the right kinds.
-fn entry_count(ins: &Instr) -> Option<i64> {
+/// Which operand is the entry count, and the count, of an unprefixed switch whose operands are of the right kinds.
+pub fn entry_count(ins: &Instr) -> Option<(usize, i64)> {
     let index = |k: usize| match ins.operands.get(k)? {
         Operand::Idx(v) => Some(*v as i64),
         _ => None,
@@ -244,11 +244,11 @@ fn entry_count(ins: &Instr) -> Option<i64> {
         "SwitchOnSmiNoFeedback" => {
             index(0)?;
             number(2)?;
-            number(1)
+            Some((1, number(1)?))
         }
         "SwitchOnGeneratorState" => {
             index(1)?;
-            number(2)
+            Some((2, number(2)?))
         }
         _ => None,
     }

@@ -209,7 +209,11 @@ impl JumpRecording {
 }
 
 /// Plain name, scale and end of the instruction at a place, where there is one.
-fn instruction(files: &Files, code: &[u8], at: u64) -> Result<Option<(String, u64, u64)>, String> {
+pub fn instruction(
+    files: &Files,
+    code: &[u8],
+    at: u64,
+) -> Result<Option<(String, u64, u64)>, String> {
     Ok(match ask(files, code, &Call::new(DECODE, &[at]))? {
         Answer::Found { words, .. } => {
             let [opcode, scale, end] = [0, 1, 2].map(|k: usize| words[k].bits());

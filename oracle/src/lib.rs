@@ -8,7 +8,9 @@
 //! list_recording, jump_recording: the same for whole listings, and for targets and numbers in slots,
 //! out of lists. named: listings with a name. v8, v8_lists: what V8 printed, as vectors.
 //! real: the same functions as record files. walks: the walk check from document 01, with vectors
-//! in walk_*.
+//! in walk_*. programs: what the programs are run on. header_recording: headers.
+//! entry_recording: entries of switches. slot_recording: slot records. wrong: recorded calls with
+//! one thing changed in each answer.
 
 pub mod ask;
 pub mod cases;
@@ -17,18 +19,22 @@ pub mod classes;
 pub mod code_recording;
 pub mod codes;
 pub mod decode;
+pub mod entry_recording;
 pub mod faults;
+pub mod header_recording;
 pub mod instructions;
 pub mod jump_recording;
 pub mod list_recording;
 pub mod lists;
 pub mod named;
 pub mod port;
+pub mod programs;
 pub mod random;
 pub mod real;
 pub mod recording;
 pub mod records;
 pub mod sample;
+pub mod slot_recording;
 pub mod stores;
 pub mod v8;
 pub mod v8_lists;
@@ -39,3 +45,4 @@ pub mod walk_recording;
 pub mod walk_short;
 pub mod walk_v8;
 pub mod walks;
+pub mod wrong;

@@ -50,6 +50,11 @@ impl NamedRecording {
     fn case(&mut self, name: &str, files: &Files) -> Result<(), String> {
         self.writer.files(files);
         let said = self.writer.call(&Call::new(LISTING, &[]))?.to_string();
+        // Into more room the same is said, where the program's limits do not matter.
+        let short = files.body.iter().all(|body| body.len() <= PROGRAM_FILE);
+        if short && said.len() < 1_000 && said != "refused 17 at 0" {
+            self.writer.call(&Call::new(LONG_LISTING, &[]))?;
+        }
         let shown = match said.len() {
             0..=400 => said,
             n => format!("{n} bytes"),

@@ -26,6 +26,25 @@ impl<'a> Port<'a> {
     /// The files in `lent` have passed the checks. The others count as empty; tagged size is then 8.
     /// An error means that the Rust's structures cannot hold what the records say.
     pub fn new(files: &'a Files, lent: u8) -> Result<Port<'a>, String> {
+        Port::of_function(files, lent, 0)
+    }
+
+    /// The same where every byte is an instruction of its own, so that the Rust writes the header of a function
+    /// whatever its code is. No opcodes are lent.
+    pub fn of_any_code(files: &'a Files, lent: u8, function: usize) -> Port<'a> {
+        let mut port = Port::of_function(files, lent, function).expect("no types are lent");
+        let any = |k| BytecodeDef {
+            name: format!("Any{k}"),
+            operands: Vec::new(),
+            prefix: None,
+            acc: String::new(),
+        };
+        port.table.bytecodes = (0..256).map(any).collect();
+        port
+    }
+
+    /// The added SharedFunctionInfo is that of an object.
+    fn of_function(files: &'a Files, lent: u8, function: usize) -> Result<Port<'a>, String> {
         let has = |file| lent & bit(file) != 0;
         let mut table = empty_table();
         if has(LAYOUT) {
@@ -49,7 +68,7 @@ impl<'a> Port<'a> {
             payload = &files.body[PAYLOAD];
         }
         let count = objects.len();
-        objects.extend(added());
+        objects.extend(added(function));
         let cache = ser::CodeCache::open_new(payload, table.tagged_size as usize, objects);
         Ok(Port { table, cache, objects: count })
     }
@@ -59,7 +78,7 @@ impl<'a> Port<'a> {
         let mut objects: Vec<_> =
             files.all(OBJECTS).map(|r| object(files, Object::read(r))).collect();
         let count = objects.len();
-        objects.extend(added());
+        objects.extend(added(0));
         let ts = self.table.tagged_size as usize;
         let cache = ser::CodeCache::open_new(&files.body[PAYLOAD], ts, objects);
         Port { table: self.table, cache, objects: count }
@@ -77,7 +96,7 @@ impl<'a> Port<'a> {
         Decoder::new(&self.table, self.layout(), parameter_count)
     }
 
-    /// The added SharedFunctionInfo whose function is object 0.
+    /// The added SharedFunctionInfo.
     pub fn shared_function_info(&self) -> usize {
         self.objects
     }
@@ -113,10 +132,15 @@ impl<'a> Port<'a> {
 
     /// The code of a function, as `render_sfi` reads it; its length field is known to be good.
     pub fn code(&self, function: usize) -> &'a [u8] {
+        self.code_part(function).unwrap_or_default()
+    }
+
+    /// The same, where the payload holds it.
+    pub fn code_part(&self, function: usize) -> Option<&'a [u8]> {
         let ts = self.table.tagged_size as usize;
         let header = self.table.bytecode_array.as_ref().unwrap().header_size;
         let at = self.cache.bca_rt_off(&self.table, ts, function, header);
-        self.cache.raw_at(function, at, self.code_length(function) as usize).unwrap_or_default()
+        self.cache.raw_at(function, at, self.code_length(function) as usize)
     }
 }
 
@@ -224,10 +248,8 @@ fn bytecode(files: &Files, record: Opcode) -> BytecodeDef {
 }
 
 fn object(files: &Files, record: Object) -> ser::Object {
-    let slots = (0..record.count).map(|k| {
-        let slot = Slot::read(files.record(SLOTS, (record.first + k) as usize));
-        ser::Slot { index: slot.index as usize, value: slot_value(slot, slot.kind) }
-    });
+    let slots = (0..record.count)
+        .map(|k| slot(Slot::read(files.record(SLOTS, (record.first + k) as usize))));
     ser::Object {
         ty: match record.kind {
             1 => ser::Ty::Structural("BytecodeArray"),
@@ -239,6 +261,10 @@ fn object(files: &Files, record: Object) -> ser::Object {
         slots: slots.collect(),
         raw_len: record.raw_len == 1,
     }
+}
+
+pub fn slot(slot: Slot) -> ser::Slot {
+    ser::Slot { index: slot.index as usize, value: slot_value(slot, slot.kind) }
 }
 
 fn slot_value(slot: Slot, kind: u8) -> ser::SlotValue {
@@ -256,11 +282,12 @@ fn slot_value(slot: Slot, kind: u8) -> ser::SlotValue {
     }
 }
 
-/// Two objects behind those of the files: a SharedFunctionInfo for object 0, and one without slots.
-fn added() -> [ser::Object; 2] {
+/// Two objects behind those of the files: the SharedFunctionInfo of an object, and one without slots.
+fn added(function: usize) -> [ser::Object; 2] {
     let object =
         |ty, slots| ser::Object { ty, byte_size: 0, start_offset: 0, slots, raw_len: false };
-    let function_data = ser::Slot { index: 1, value: ser::SlotValue::Ref(ser::Ref::Object(0)) };
+    let function_data =
+        ser::Slot { index: 1, value: ser::SlotValue::Ref(ser::Ref::Object(function)) };
     [
         object(ser::Ty::Structural("SharedFunctionInfo"), vec![function_data]),
         object(ser::Ty::Unknown, Vec::new()),

@@ -144,8 +144,18 @@ mod tests {
     #[test]
     fn copies_are_current() {
         let oracle = std::path::Path::new(env!("CARGO_MANIFEST_DIR"));
-        let replay = ["rows.vec", "store.vec", "code.vec", "v8.vec"].map(|name| ("replay", name));
-        let relist = ["rows.vec", "named.vec", "list.vec", "jump.vec", "v8list.vec"];
+        let replay = ["rows.vec", "store.vec", "slots.vec", "code.vec", "v8.vec"]
+            .map(|name| ("replay", name));
+        let relist = [
+            "rows.vec",
+            "named.vec",
+            "list.vec",
+            "jump.vec",
+            "entry.vec",
+            "header.vec",
+            "layout.vec",
+            "v8list.vec",
+        ];
         let rewalk = ["walk-1", "walk-2", "walk-3", "walk-4", "walk-5", "walk-few", "walk-v8"];
         let rewalk = rewalk.map(|name| ("rewalk", name.to_owned() + ".vec"));
         let copies = replay.into_iter().chain(relist.map(|name| ("relist", name)));
@@ -154,6 +164,11 @@ mod tests {
             let recorded = std::fs::read(oracle.join("recorded").join(&name)).unwrap();
             let copy = oracle.join("../crates").join(held).join("data").join(&name);
             assert!(recorded == std::fs::read(copy).unwrap(), "{held} {name}");
+        }
+        for held in ["replay", "relist", "rewalk"] {
+            let recorded = oracle.join("recorded").join(format!("wrong-{held}.vec"));
+            let copy = oracle.join("../crates").join(held).join("data/wrong.vec");
+            assert!(std::fs::read(recorded).unwrap() == std::fs::read(copy).unwrap(), "{held}");
         }
     }
 

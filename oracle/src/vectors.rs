@@ -74,21 +74,21 @@ impl Writer {
 
     /// Records a call with an answer that was not asked here.
     pub fn given(&mut self, call: &Call, answer: &Answer) {
-        self.item(CALL + call.function as u8, &body(call, answer));
+        self.said(call, &said(answer));
+    }
+
+    /// Records a call with status and answer as they stand in the file: arguments, then these.
+    pub fn said(&mut self, call: &Call, said: &[u8]) {
+        let mut body: Vec<u8> = call.args.iter().flat_map(|a| a.to_le_bytes()).collect();
+        body.extend(&call.bytes);
+        body.extend(said);
+        self.item(CALL + call.function as u8, &body);
         self.calls += 1;
     }
 }
 
-/// The body of a call: arguments, status, answer.
-fn body(call: &Call, answer: &Answer) -> Vec<u8> {
-    let mut out: Vec<u8> = call.args.iter().flat_map(|a| a.to_le_bytes()).collect();
-    out.extend(&call.bytes);
-    out.extend(said(answer));
-    out
-}
-
 /// Status and answer.
-fn said(answer: &Answer) -> Vec<u8> {
+pub fn said(answer: &Answer) -> Vec<u8> {
     let mut out = Vec::new();
     match answer {
         Answer::Nothing => out.push(0),
@@ -132,8 +132,36 @@ fn runs(answers: &[Answer]) -> Vec<u8> {
     out
 }
 
+/// A call in a vector file.
+pub struct Recorded<'a> {
+    /// Where its item starts.
+    pub at: usize,
+    /// The files and the code as they are then.
+    pub files: &'a Files,
+    pub code: &'a [u8],
+    pub call: Call,
+    /// Status and answer.
+    pub said: &'a [u8],
+}
+
 /// Asks every call of a vector file again. Gives the number of calls, or the first that differs.
 pub fn replay(vectors: &[u8]) -> Result<usize, String> {
+    each(vectors, |recorded| {
+        let answer = ask::ask(recorded.files, recorded.code, &recorded.call)?;
+        if said(&answer) != recorded.said {
+            let name = FUNCTIONS[recorded.call.function].name;
+            let args = &recorded.call.args;
+            return Err(format!("item at {}: {name} {args:?} is now {answer}", recorded.at));
+        }
+        Ok(())
+    })
+}
+
+/// Hands over every call of a vector file. Gives the number of calls.
+pub fn each(
+    vectors: &[u8],
+    mut take: impl FnMut(&Recorded) -> Result<(), String>,
+) -> Result<usize, String> {
     let mut files = Files::default();
     let mut code = Vec::new();
     let mut calls = 0;
@@ -153,11 +181,8 @@ pub fn replay(vectors: &[u8]) -> Result<usize, String> {
             CODE => code = body_was.to_vec(),
             _ => {
                 let call = arguments(kind, body_was).ok_or(format!("bad item at {at}"))?;
-                let answer = ask::ask(&files, &code, &call)?;
-                if body(&call, &answer) != body_was {
-                    let name = FUNCTIONS[call.function].name;
-                    return Err(format!("item at {at}: {name} {:?} is now {answer}", call.args));
-                }
+                let said = &body_was[8 * call.args.len() + call.bytes.len()..];
+                take(&Recorded { at, files: &files, code: &code, call, said })?;
                 calls += 1;
             }
         }

@@ -1,90 +1,95 @@
--- 01's rows P1 to P12, and what our definitions say of each.
+-- 01's rows P1 to P12, and what the definitions that the public contracts cite say of each.
 use Prim.Native.Nat.{ℕ}
-use mathlib.Core.List.{List, [], _∷_, _++_, map}
-use mathlib.Core.Bool.{false}
+use mathlib.Core.List.{List, [], _∷_}
 use lib.IntN.{pos}
+use lib.ListN.{replicate}
 use Rattle.laws.specs.Ascii.{ascii}
-use Rattle.refusal.specs.Check.{refusalAt}
-use Rattle.tables.specs.Layout.{frameOf}
+use Rattle.tables.specs.Layout.{layoutOf}
 use Rattle.decoder.specs.declared.Outcome.{Outcome}
-use Rattle.decoder.specs.declared.Instr.{Instr}
-use Rattle.decoder.specs.Listed.{listed}
-use Rattle.flow.specs.Flow.{flowOf}
-use Rattle.bytecode.specs.Texts.{instrName}
-use Rattle.serializer.specs.declared.Elem.the-variants as elem
-use Rattle.targets.specs.Targets.{here, jumpTarget, jumpTable}
-use Rattle.lines.specs.Line.{View, operandsText, targetText, tableText}
-use Rattle.graph.specs.Graph.{Finding, finding}
-use Rattle.graph.specs.Graph.Finding.{closed, leaves}
-use Rattle.steps.specs.Steps.{Source, walkGraph}
-use Rattle.cases.specs.Sample.{opcodes, types, layout}
+use Rattle.decoder.specs.declared.Decoded.{Decoded}
+use Rattle.decoder.specs.Instr.{blank}
+use Rattle.decoder.specs.Decode.{refusedAt}
+use Rattle.bytecode.specs.Decode.{decodeOne}
+use Rattle.lines.specs.Line.{View, lineText}
+use Rattle.targets.specs.Targets.{found}
+use Rattle.disasm.specs.Listing.{Files}
+use Rattle.jumps.specs.declared.Owner.the-variants as owner
+use Rattle.jumps.specs.declared.TargetAt.{TargetAt}
+use Rattle.jumps.specs.declared.TargetAt.the-variants as target-at
+use Rattle.jumps.specs.Jumps.{ownerPool, ownerElem, targetCall}
+use Rattle.walk.specs.declared.Walked.{Walked}
+use Rattle.walk.specs.declared.Walked.the-variants as walked-as
+use Rattle.walk.specs.Walk.{walkLent}
+use Rattle.sample.specs.Sample.{opcodes, types, layout}
 
--- what a row asks of a code: its listing, or its walks
+-- what a row asks of a code: the instruction at a place; the line of its first instruction; that one's target; its walks, over a mark buffer
+-- of so many sevens
 pub data Asked : Type 0 where
-  listing : List ℕ → Asked
-  walks : List ℕ → Asked
+  decodes : List ℕ → ℕ → Asked
+  lists : List ℕ → Asked
+  jumps : List ℕ → Asked
+  walks : List ℕ → ℕ → Asked
 
--- what it says: the instructions, each with name, operands and target as in its line, and how they ended; or what the walk check finds
-pub data Row : Type 0 where
-  lists : (lines : List (List ℕ)) → (outcome : Outcome) → Row
-  finds : Finding → Row
+-- what it is told: as `bytecode::decode` answers; whether the first instruction was decoded, and its line, whole; as `jumps::jump_target`
+-- answers; as `walk::walk_code` answers, and the marks behind it
+pub data Told : Type 0 where
+  decoded : Decoded → Told
+  line : Outcome → List ℕ → Told
+  target : TargetAt → Told
+  walked : Walked × List ℕ → Told
 
--- "No runtime names, and no pool unless named"; a function of one parameter
+-- "No runtime names, and no pool unless named"
+abbrev pub files : Files
+files = record { opcodes = opcodes; types = types; runtime = []; intrinsic = []; layout = layout; objects = []; slots = []; payload = [] }
+
+-- a function of one parameter
 abbrev pub view : List ℕ → View
 view code = record {
   code = code;
   opcodes = opcodes;
   names = record { types = types; runtime = []; intrinsic = [] };
-  frame = frameOf layout;
+  frame = layoutOf layout .frame;
   params = pos 1;
-  pooled = false;
-  elem = λ n. elem.Nothing;
+  pooled = found (ownerPool files owner.Nothing);
+  elem = ownerElem files owner.Nothing;
 }
 
--- the part of a line behind the bytes
-abbrev pub shownLine : View → Instr → List ℕ
-shownLine v i =
-    let flow = flowOf opcodes (i .opcode) in
-    instrName opcodes (i .opcode) (i .scale) ++ operandsText v i ++ targetText (jumpTarget (v .elem) flow i) ++ tableText (v .elem) (here i) (jumpTable (v .pooled) flow i)
-
--- the same for its walks
-abbrev pub source : List ℕ → Source
-source code = record { code = code; opcodes = opcodes; types = types; rfs = frameOf layout .«reg_file_start»; pooled = false; elem = λ n. elem.Nothing }
-
-unfoldable pub shown : Asked → Row
-shown (listing code) = let l = listed code opcodes types (frameOf layout .«reg_file_start») in lists (map (shownLine (view code)) (l .instrs)) (l .outcome)
-shown (walks code) = finds (finding (walkGraph (source code)))
+unfoldable pub told : Asked → Told
+told (decodes code at) = decoded (decodeOne opcodes types layout code at)
+told (lists code) = let d = decodeOne opcodes types layout code 0 in line (d .outcome) (lineText (view code) (d .instr))
+told (jumps code) = target (targetCall files owner.Nothing code 0)
+told (walks code marks) = walked (walkLent files owner.Nothing code (replicate marks 7))
 
 -- P1 to P12
 unfoldable pub asked : List Asked
 asked =
-    listing []
-    ∷ listing (0x03 ∷ 0xff ∷ [])
-    ∷ listing (0x00 ∷ 0x03 ∷ 0x80 ∷ 0x01 ∷ [])
-    ∷ listing (0x01 ∷ 0x03 ∷ 0x00 ∷ 0x00 ∷ 0x00 ∷ 0x80 ∷ [])
-    ∷ listing (0x02 ∷ 0x01 ∷ [])
-    ∷ listing (0x00 ∷ 0x0c ∷ [])
-    ∷ listing (0x0a ∷ 0x05 ∷ 0x00 ∷ 0xfa ∷ 0x02 ∷ [])
-    ∷ listing (0x0a ∷ 0x05 ∷ 0x00 ∷ 0xfa ∷ [])
-    ∷ listing (0x07 ∷ 0x03 ∷ 0x00 ∷ [])
-    ∷ walks (0x05 ∷ 0x01 ∷ [])
-    ∷ walks (0x00 ∷ 0x05 ∷ 0x03 ∷ 0x00 ∷ 0x02 ∷ [])
-    ∷ walks (0x06 ∷ 0x02 ∷ 0x0b ∷ [])
+    decodes [] 0
+    ∷ lists (0x03 ∷ 0xff ∷ [])
+    ∷ lists (0x00 ∷ 0x03 ∷ 0x80 ∷ 0x01 ∷ [])
+    ∷ lists (0x01 ∷ 0x03 ∷ 0x00 ∷ 0x00 ∷ 0x00 ∷ 0x80 ∷ [])
+    ∷ decodes (0x02 ∷ 0x01 ∷ []) 1
+    ∷ decodes (0x00 ∷ 0x0c ∷ []) 0
+    ∷ lists (0x0a ∷ 0x05 ∷ 0x00 ∷ 0xfa ∷ 0x02 ∷ [])
+    ∷ decodes (0x0a ∷ 0x05 ∷ 0x00 ∷ 0xfa ∷ []) 0
+    ∷ jumps (0x07 ∷ 0x03 ∷ 0x00 ∷ [])
+    ∷ walks (0x05 ∷ 0x01 ∷ []) 4
+    ∷ walks (0x00 ∷ 0x05 ∷ 0x03 ∷ 0x00 ∷ 0x02 ∷ []) 7
+    ∷ walks (0x06 ∷ 0x02 ∷ 0x0b ∷ []) 5
     ∷ []
 
--- what 01 says of them
-unfoldable pub rows : List Row
+-- what 01 says of them. Of a line 01 gives the operands, and at P3 the name: they stand in the whole line.
+unfoldable pub rows : List Told
 rows =
-    lists [] Outcome.End
-    ∷ lists (ascii "LdaSmi [-1]" ∷ []) Outcome.End
-    ∷ lists (ascii "LdaSmi.Wide [384]" ∷ []) Outcome.End
-    ∷ lists (ascii "LdaSmi.ExtraWide [-2147483648]" ∷ []) Outcome.End
-    ∷ lists (ascii "LdaZero" ∷ []) (Outcome.Refused (refusalAt 12 1))
-    ∷ lists [] (Outcome.Refused (refusalAt 13 0))
-    ∷ lists (ascii "CallRuntime [5], r0-r1" ∷ []) Outcome.End
-    ∷ lists [] (Outcome.Refused (refusalAt 15 4))
-    ∷ lists (ascii "JumpLoop [3], [0] (jscd @ 18446744073709551613)" ∷ []) Outcome.End
-    ∷ finds (leaves 1 0)
-    ∷ finds (leaves 2 4)
-    ∷ finds closed
+    decoded (record { outcome = Outcome.End; instr = blank })
+    ∷ line Outcome.Done (ascii "           @    0 : 03 ff              LdaSmi [-1]\n")
+    ∷ line Outcome.Done (ascii "           @    0 : 00 03 80 01        LdaSmi.Wide [384]\n")
+    ∷ line Outcome.Done (ascii "           @    0 : 01 03 00 00 00 80  LdaSmi.ExtraWide [-2147483648]\n")
+    ∷ decoded (refusedAt 12 1)
+    ∷ decoded (refusedAt 13 0)
+    ∷ line Outcome.Done (ascii "           @    0 : 0a 05 00 fa 02     CallRuntime [5], r0-r1\n")
+    ∷ decoded (refusedAt 15 4)
+    ∷ target (target-at.At 18446744073709551613)
+    ∷ walked (walked-as.Leaves 1 0, 1 ∷ 0 ∷ 7 ∷ 7 ∷ [])
+    ∷ walked (walked-as.Leaves 2 4, 1 ∷ 0 ∷ 0 ∷ 0 ∷ 1 ∷ 7 ∷ 7 ∷ [])
+    ∷ walked (walked-as.Closed, 1 ∷ 0 ∷ 1 ∷ 7 ∷ 7 ∷ [])
     ∷ []

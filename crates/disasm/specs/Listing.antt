@@ -43,7 +43,7 @@ headerText h =
     ++ ascii "\nRegister count " ++ decimal (h .«register_count») ++ ascii "\nFrame size " ++ decimal (h .«frame_size»)
     ++ ascii "\nOSR nesting level: " ++ decimal (h .osr) ++ ascii "\nBytecode Age: " ++ decimal (h .age) ++ ascii "\n"
 
--- 01: the pool is the object that the pool's slot refers to; "a root or a repeat there is no pool"
+-- the pool is the object that the slot at the pool's index refers to; our reading: a root or a repeat there is no pool
 unfoldable pub poolBy : List ℕ → SlotAt → Pool
 poolBy objects (slot-at.At (value.Object n)) = pool.At (record { first = objectOf objects n .first; count = objectOf objects n .count })
 poolBy objects (slot-at.At value.Other) = pool.Nothing

@@ -1,19 +1,58 @@
-// The listing program on files at its limit, beyond it, missing, or no files at all. The file `args` has eight names for each case; where a
-// file cannot be read nothing is printed, and so for a wrong number of arguments.
+// Both programs on files at their limit, beyond it, missing, or no files at all, on names of both kinds, on codes of document 01 and on refused
+// records. The file `args` has eight names for each set of files; where a file cannot be read nothing is printed, and so for a wrong number of arguments.
 use files::Program;
 use libc::STDOUT_FILENO;
 
 fn main() {
-    case(b"payload of 65,536 bytes\n", 1);
-    case(b"payload of 65,537 bytes\n", 9);
-    case(b"opcodes of 65,537 bytes\n", 17);
-    case(b"payload missing\n", 25);
-    case(b"payload a folder\n", 33);
-    io::write_all(STDOUT_FILENO, b"forty arguments\n");
+    listings();
+    limits();
+    codes();
+    io::write_all(STDOUT_FILENO, b"list: 104 arguments\n");
     files::run(Program::List);
 }
 
-fn case(title: &[u8], first: u8) {
+fn listings() {
+    list(b"list: the usual names, not as arguments\n", 0);
+    list(b"list: the usual names\n", 1);
+    list(b"list: payload of 65,536 bytes\n", 9);
+    list(b"list: payload of 65,537 bytes\n", 17);
+    list(b"list: opcodes of 65,537 bytes\n", 25);
+    list(b"list: payload missing\n", 33);
+    list(b"list: payload a folder\n", 41);
+    list(b"list: a switch\n", 81);
+    list(b"list: opcode 4 with prefix byte 3\n", 89);
+    list(b"list: slot 4 of kind 6\n", 97);
+}
+
+fn limits() {
+    walk(b"walk: the usual names, not as arguments\n", 0);
+    walk(b"walk: the usual names\n", 1);
+    walk(b"walk: payload of 65,536 bytes\n", 9);
+    walk(b"walk: payload of 65,537 bytes\n", 17);
+    walk(b"walk: opcodes of 65,537 bytes\n", 25);
+    walk(b"walk: payload missing\n", 33);
+    walk(b"walk: payload a folder\n", 41);
+}
+
+// Walks that leave and walks that stay, and refusals.
+fn codes() {
+    walk(b"walk: 05 01\n", 49);
+    walk(b"walk: 00 05 03 00 02\n", 57);
+    walk(b"walk: 06 02 0b\n", 65);
+    walk(b"walk: 06 03 0b\n", 73);
+    walk(b"walk: a switch\n", 81);
+    walk(b"walk: opcode 4 with prefix byte 3\n", 89);
+    walk(b"walk: slot 4 of kind 6\n", 97);
+}
+
+// The listing of the files from argument first on.
+fn list(title: &[u8], first: u8) {
     io::write_all(STDOUT_FILENO, title);
     files::run_from(Program::List, first);
+}
+
+// Their walk check.
+fn walk(title: &[u8], first: u8) {
+    io::write_all(STDOUT_FILENO, title);
+    files::run_from(Program::Walk, first);
 }

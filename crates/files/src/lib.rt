@@ -1,20 +1,16 @@
-// The programs' input and output: the eight record files are read, and the answer is printed. No contract can say what is read or written,
-// so the functions here state nothing but how much of a buffer counts.
+// The programs' input and output: the eight record files are read, and the answer is printed. What is printed for eight files is the contract of
+// `answer`. No contract can say what is read or written: the other functions state only how much of a buffer counts.
 use libc::STDERR_FILENO;
 use libc::STDOUT_FILENO;
 ghost use mathlib.Core.Path.{_≡_};
 ghost use Rattle.io.specs.Counts.{Counts};
+ghost use Rattle.program.specs.Printed.{Printed};
+ghost use Rattle.files.specs.PrintedBy.{printedBy};
 
 // Which answer is printed.
 pub enum Program {
     List,
     Walk,
-}
-
-// A program, and the number of the first of its eight arguments. Argument 0 is no file: first is 0 where the files have their usual names.
-struct Call {
-    what: Program,
-    first: u8,
 }
 
 // Whether a file was read, and how many bytes of it.
@@ -35,9 +31,37 @@ pub fn run(what: Program) {
     }
 }
 
-// The same for the eight arguments from number first on, or for the usual names where first is 0.
+// The same for the eight arguments from number first on, or for the usual names where first is 0. A file's limit is 65,536 bytes; it has room
+// for one more, in which a longer file shows.
 pub fn run_from(what: Program, first: u8) {
-    with_none(Call { what, first });
+    let mut room = [0u8; 524296];
+    let opcodes = load(true, first, 0, b"opcodes.bin", &mut room);
+    let types = load(opcodes.good, first, 1, b"types.bin", &mut room);
+    let runtime = load(types.good, first, 2, b"runtime.bin", &mut room);
+    let intrinsic = load(runtime.good, first, 3, b"intrinsic.bin", &mut room);
+    let layout = load(intrinsic.good, first, 4, b"layout.bin", &mut room);
+    let objects = load(layout.good, first, 5, b"objects.bin", &mut room);
+    let slots = load(objects.good, first, 6, b"slots.bin", &mut room);
+    let payload = load(slots.good, first, 7, b"payload.bin", &mut room);
+    if !payload.good {
+        return;
+    }
+    print(
+        what,
+        file(&room, 0, opcodes.size),
+        file(&room, 1, types.size),
+        file(&room, 2, runtime.size),
+        file(&room, 3, intrinsic.size),
+        file(&room, 4, layout.size),
+        file(&room, 5, objects.size),
+        file(&room, 6, slots.size),
+        file(&room, 7, payload.size),
+    );
+}
+
+// The contents of file i of the eight.
+fn file<'a>(room: &'a [u8; 524296], i: u8, size: usize) -> &'a [u8] {
+    serializer::lent(room, i as usize * 65537, size)
 }
 
 fn usage(what: Program) {
@@ -56,132 +80,8 @@ fn put_name(what: Program) -> bool {
     }
 }
 
-// A file's limit is 65,536 bytes. Its buffer has one more, in which a longer file shows. Each function here reads one file and lends it to
-// the next.
-fn with_none(call: Call) {
-    let mut buffer = [0u8; 65537];
-    let file = load(call.first, 0, b"opcodes.bin", &mut buffer);
-    if file.good {
-        with_opcodes(call, &buffer[..file.size]);
-    }
-}
-
-fn with_opcodes(call: Call, opcodes: &[u8]) {
-    let mut buffer = [0u8; 65537];
-    let file = load(call.first, 1, b"types.bin", &mut buffer);
-    if file.good {
-        with_types(call, opcodes, &buffer[..file.size]);
-    }
-}
-
-fn with_types(call: Call, opcodes: &[u8], types: &[u8]) {
-    let mut buffer = [0u8; 65537];
-    let file = load(call.first, 2, b"runtime.bin", &mut buffer);
-    if file.good {
-        with_runtime(call, opcodes, types, &buffer[..file.size]);
-    }
-}
-
-fn with_runtime(call: Call, opcodes: &[u8], types: &[u8], runtime: &[u8]) {
-    let mut buffer = [0u8; 65537];
-    let file = load(call.first, 3, b"intrinsic.bin", &mut buffer);
-    if file.good {
-        with_intrinsic(call, opcodes, types, runtime, &buffer[..file.size]);
-    }
-}
-
-fn with_intrinsic(call: Call, opcodes: &[u8], types: &[u8], runtime: &[u8], intrinsic: &[u8]) {
-    let mut buffer = [0u8; 65537];
-    let file = load(call.first, 4, b"layout.bin", &mut buffer);
-    if file.good {
-        with_layout(
-            call,
-            opcodes,
-            types,
-            runtime,
-            intrinsic,
-            &buffer[..file.size],
-        );
-    }
-}
-
-fn with_layout(
-    call: Call,
-    opcodes: &[u8],
-    types: &[u8],
-    runtime: &[u8],
-    intrinsic: &[u8],
-    layout: &[u8],
-) {
-    let mut buffer = [0u8; 65537];
-    let file = load(call.first, 5, b"objects.bin", &mut buffer);
-    if file.good {
-        with_objects(
-            call,
-            opcodes,
-            types,
-            runtime,
-            intrinsic,
-            layout,
-            &buffer[..file.size],
-        );
-    }
-}
-
-fn with_objects(
-    call: Call,
-    opcodes: &[u8],
-    types: &[u8],
-    runtime: &[u8],
-    intrinsic: &[u8],
-    layout: &[u8],
-    objects: &[u8],
-) {
-    let mut buffer = [0u8; 65537];
-    let file = load(call.first, 6, b"slots.bin", &mut buffer);
-    if file.good {
-        with_slots(
-            call,
-            opcodes,
-            types,
-            runtime,
-            intrinsic,
-            layout,
-            objects,
-            &buffer[..file.size],
-        );
-    }
-}
-
-fn with_slots(
-    call: Call,
-    opcodes: &[u8],
-    types: &[u8],
-    runtime: &[u8],
-    intrinsic: &[u8],
-    layout: &[u8],
-    objects: &[u8],
-    slots: &[u8],
-) {
-    let mut buffer = [0u8; 65537];
-    let file = load(call.first, 7, b"payload.bin", &mut buffer);
-    if file.good {
-        print(
-            call,
-            opcodes,
-            types,
-            runtime,
-            intrinsic,
-            layout,
-            objects,
-            slots,
-            &buffer[..file.size],
-        );
-    }
-}
-
 fn print(
-    call: Call,
+    what: Program,
     opcodes: &[u8],
     types: &[u8],
     runtime: &[u8],
@@ -192,7 +92,6 @@ fn print(
     payload: &[u8],
 ) {
     let mut out = [0u8; 65536];
-    let what = call.what;
     let n = answer(
         what,
         &mut out,
@@ -223,7 +122,7 @@ fn answer(
     slots: &[u8],
     payload: &[u8],
 ) -> usize
-    ensures { λ r. ⌜ Counts r (now (out .exit)) ⌝ }
+    ensures { λ r. ⌜ Printed (printedBy what (record { opcodes = now (opcodes .entry); types = now (types .entry); runtime = now (runtime .entry); intrinsic = now (intrinsic .entry); layout = now (layout .entry); objects = now (objects .entry); slots = now (slots .entry); payload = now (payload .entry) })) (now (out .entry)) (now (out .exit)) r ⌝ }
 {
     match what {
         Program::List => program::list_text(
@@ -251,8 +150,25 @@ fn answer(
     }
 }
 
-// File i of the eight, by its argument or by its usual name.
-fn load(first: u8, i: u8, name: &[u8], buffer: &mut [u8]) -> Loaded
+// Reads file i of the eight, by its argument or by its usual name, where those before it were read.
+fn load(so_far: bool, first: u8, i: u8, name: &[u8], room: &mut [u8; 524296]) -> Loaded {
+    if so_far {
+        load_at(first, i, name, room)
+    } else {
+        unread()
+    }
+}
+
+fn load_at(first: u8, i: u8, name: &[u8], room: &mut [u8]) -> Loaded {
+    let at = i as usize * 65537;
+    let end = at + 65537;
+    if room.len() < end {
+        return unread();
+    }
+    load_by(first, i, name, &mut room[at..end])
+}
+
+fn load_by(first: u8, i: u8, name: &[u8], buffer: &mut [u8]) -> Loaded
     ensures { λ r. ⌜ Counts (r .size) (now (buffer .exit)) ⌝ }
 {
     if first == 0 {

@@ -5,7 +5,7 @@ use mathlib.Core.Bool.{Bool, true, false}
 use mathlib.Core.List.{List, [], _∷_, _++_}
 use lib.IntN.{pos}
 use lib.ListN.{replicate}
-use Rattle.laws.specs.Scan.{firstFrom}
+use Rattle.laws.specs.Scan.{firstFrom, within}
 use Rattle.words.specs.Le.{leAt}
 use Rattle.words.specs.Signed.{modulo}
 use Rattle.store.specs.Records.{slotOf, objectOf}
@@ -14,7 +14,8 @@ use Rattle.serializer.specs.Down.{down}
 use Rattle.serializer.specs.Smi.{smiBytes}
 use Rattle.serializer.specs.Field.{rawAt}
 use Rattle.serializer.specs.Offset.{rtOff}
-use Rattle.tables.specs.Layout.{layoutOf}
+use Rattle.tables.specs.Layout.{ranges, rangeOf, layoutOf}
+use Rattle.tables.specs.Check.{wholeRecords, checkLayoutFile}
 use Rattle.header.specs.Header.{headerWith, headerBy}
 use Rattle.header.specs.Slots.{smiBy, fieldNum}
 use Rattle.header.specs.Calls.{headerCall, smiCall, numCall}
@@ -66,7 +67,7 @@ pub sample : header 8 0 (length 5) 8 ≡ header-at.At (record {
   «code_at» = 46;
   «code_len» = 5;
 })
-unfolding headerCall headerBy headerWith layoutOf checkStore sizesOk objectOk fieldsOk valueOk slotOk fallsIn falls firstFrom leAt slotOf objectOf rawAt down smiBytes rtOff
+unfolding headerCall headerBy headerWith layoutOf checkLayoutFile wholeRecords within ranges rangeOf checkStore sizesOk objectOk fieldsOk valueOk slotOk fallsIn falls firstFrom leAt slotOf objectOf rawAt down smiBytes rtOff
 sample = refl
 
 abbrev headers : List (List ℕ)
@@ -84,6 +85,11 @@ headers =
     -- no BytecodeArray, no object
     ∷ shownHeader (headerCall (object 0) slot (payload (length 5) 8) (layout 8 0) 0)
     ∷ shownHeader (headerCall (object 1) slot (payload (length 5) 8) (layout 8 0) 1)
+    -- no layout record; a tagged size whose low byte is 8; both before what is wrong with the store
+    ∷ shownHeader (headerCall (object 1) slot (payload (length 5) 8) [] 0)
+    ∷ shownHeader (header 264 0 (length 5) 8)
+    ∷ shownHeader (headerCall (object 3) slot (payload (length 5) 8) [] 1)
+    ∷ shownHeader (headerCall (object 3) slot (payload (length 5) 8) (layout 264 0) 1)
     ∷ []
 
 pub header-cases : headers ≡
@@ -96,8 +102,12 @@ pub header-cases : headers ≡
     ∷ (2 ∷ 9 ∷ 0 ∷ [])
     ∷ (2 ∷ 8 ∷ 0 ∷ [])
     ∷ (2 ∷ 8 ∷ 0 ∷ [])
+    ∷ (2 ∷ 1 ∷ 0 ∷ [])
+    ∷ (2 ∷ 5 ∷ 0 ∷ [])
+    ∷ (2 ∷ 1 ∷ 0 ∷ [])
+    ∷ (2 ∷ 5 ∷ 0 ∷ [])
     ∷ []
-unfolding headerCall headerBy headerWith layoutOf checkStore sizesOk objectOk fieldsOk valueOk slotOk fallsIn falls firstFrom leAt slotOf objectOf rawAt down smiBytes rtOff modulo
+unfolding headerCall headerBy headerWith layoutOf checkLayoutFile wholeRecords within ranges rangeOf checkStore sizesOk objectOk fieldsOk valueOk slotOk fallsIn falls firstFrom leAt slotOf objectOf rawAt down smiBytes rtOff modulo
 header-cases = refl
 
 abbrev smi : ℕ → ℕ → List ℕ

@@ -18,9 +18,10 @@ use Rattle.serializer.specs.Calls.{checkAt}
 use Rattle.serializer.proofs.Searched.{raw-searched}
 use Rattle.serializer.proofs.Checked.{check-ordered}
 use Rattle.tables.specs.declared.Layout.{Layout}
+use Rattle.tables.specs.Check.{checkLayoutFile}
 use Rattle.header.specs.Header.{headerBy, headerOf, headerSearched, rtFor}
 use Rattle.header.specs.Slots.{smiBy, fieldNum}
-use Rattle.header.specs.Calls.{checkCode}
+use Rattle.header.specs.Calls.{checkCode, checkHeader}
 
 module _ (s : List ℕ) (first count : ℕ) (ordered : Ordered s first count) where
   -- the two readers are one function
@@ -44,5 +45,5 @@ code-checked o s p k ok =
     rw (or-left (checkStore o s p) (checkCodeObject o k) ok, lt-ltb k (objectCount o) (good-code-object o k object .0))
 
 -- from a function's answer x to the check: its slots are in order
-pub code-ordered : (o s p : List ℕ) (k : ℕ) {x : Check} → x ≡ checkCode o s p k → x ≡ Ok → Ordered s (objectOf o k .first) (objectOf o k .count)
-code-ordered o s p k e ok = check-ordered o s p k (code-checked o s p k (sym e ∙ ok))
+pub code-ordered : (o s p l : List ℕ) (k : ℕ) {x : Check} → x ≡ checkHeader o s p l k → x ≡ Ok → Ordered s (objectOf o k .first) (objectOf o k .count)
+code-ordered o s p l k e ok = check-ordered o s p k (code-checked o s p k (or-right (checkLayoutFile l) (checkCode o s p k) (sym e ∙ ok)))

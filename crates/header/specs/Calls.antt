@@ -1,4 +1,5 @@
--- The calls on a lent store o, s, p and an object number k: rows 6, 7 and 8 are checked, then the call answers.
+-- The calls on a lent store o, s, p and an object number k: rows 6, 7 and 8 are checked, behind those of the layout where it is lent, then
+-- the call answers.
 use Prim.Native.Nat.{ℕ}
 use mathlib.Core.Bool.{Bool}
 use mathlib.Core.List.{List}
@@ -9,6 +10,7 @@ use Rattle.store.specs.Check.{checkStore, checkCodeObject}
 use Rattle.serializer.specs.Field.{rawAt}
 use Rattle.serializer.specs.Calls.{checkAt, unlessRefused}
 use Rattle.tables.specs.Layout.{layoutOf}
+use Rattle.tables.specs.Check.{checkLayoutFile}
 use Rattle.header.specs.Header.{headerOf}
 use Rattle.header.specs.Slots.{smiBy, fieldNum}
 use Rattle.header.specs.declared.HeaderAt.{HeaderAt}
@@ -22,9 +24,13 @@ use Rattle.header.specs.declared.NumAnswer.the-variants as num-answer
 abbrev pub checkCode : List ℕ → List ℕ → List ℕ → ℕ → Check
 checkCode o s p k = orElse (checkStore o s p) (checkCodeObject o k)
 
--- l is the layout record; row 9 is in headerOf
+-- l is the layout file: "Rows are in the order of checking", 1 and 5 before 6 to 8
+abbrev pub checkHeader : List ℕ → List ℕ → List ℕ → List ℕ → ℕ → Check
+checkHeader o s p l k = orElse (checkLayoutFile l) (checkCode o s p k)
+
+-- row 9 is in headerOf
 unfoldable pub headerCall : List ℕ → List ℕ → List ℕ → List ℕ → ℕ → HeaderAt
-headerCall o s p l k = unlessRefused (checkCode o s p k) header-at.Refused (headerOf s p (objectOf o k) (layoutOf l))
+headerCall o s p l k = unlessRefused (checkHeader o s p l k) header-at.Refused (headerOf s p (objectOf o k) (layoutOf l))
 
 -- the Rust: smi_slot
 unfoldable pub smiCall : List ℕ → List ℕ → List ℕ → ℕ → ℕ → ℕ → SmiAnswer

@@ -16,7 +16,7 @@ ghost use Rattle.serializer.specs.Length.{smiField};
 ghost use Rattle.serializer.specs.Calls.{checkAt};
 ghost use Rattle.header.specs.Header.{lengthOff, orZero, lengthBy, lengthOk, fieldBy, numberAt, paramCount, codeAt, headerWith, rtFor, rawFor, headerSearched};
 ghost use Rattle.header.specs.Slots.{slotBy, untested, smiRaw, smiBy, plainNum, smiNum, numBy, fieldNum};
-ghost use Rattle.header.specs.Calls.{checkCode, headerCall, smiCall, numCall};
+ghost use Rattle.header.specs.Calls.{checkCode, checkHeader, headerCall, smiCall, numCall};
 
 // Answers.
 
@@ -57,7 +57,7 @@ pub enum NumAnswer {
 
 // Calls on a lent store and an object number, with the checks of rows 6, 7 and 8.
 
-// The header of an object; row 8 also where it is no BytecodeArray, then row 9.
+// The header of an object: rows 1 and 5 of the layout first; row 8 also where it is no BytecodeArray, then row 9.
 pub fn header_at(
     objects: &[u8],
     slots: &[u8],
@@ -67,7 +67,7 @@ pub fn header_at(
 ) -> HeaderAt
     ensures { λ r. ⌜ r ≡ headerCall (now (objects .entry)) (now (slots .entry)) (now (payload .entry)) (now (layout .entry)) object ⌝ }
 {
-    match check_code(objects, slots, payload, object) {
+    match check_header(objects, slots, payload, layout, object) {
         Check::Ok => {
             let o = store::object_of(objects, object);
             header_of(slots, payload, o, tables::layout_of(layout))
@@ -131,6 +131,14 @@ fn check_code(objects: &[u8], slots: &[u8], payload: &[u8], object: usize) -> Ch
         store::check_store(objects, slots, payload),
         store::check_code_object(objects, object),
     )
+}
+
+// The checks of the layout, then those of the store.
+fn check_header(objects: &[u8], slots: &[u8], payload: &[u8], layout: &[u8], object: usize) -> Check
+    ensures { λ r. ⌜ r ≡ checkHeader (now (objects .entry)) (now (slots .entry)) (now (payload .entry)) (now (layout .entry)) object ⌝ }
+{
+    let table = tables::check_layout_file(layout);
+    refusal::or_else(table, check_code(objects, slots, payload, object))
 }
 
 // The header.

@@ -1,4 +1,4 @@
--- Targets and tables at places of small codes over 01's sample table, by computing. Assumes nothing.
+-- Targets, tables and entries at places of small codes over 01's sample table, by computing. Assumes nothing.
 use Prim.Native.Nat.{ℕ}
 use mathlib.Core.Path.{_≡_, refl}
 use mathlib.Core.List.{List, [], _∷_, _++_}
@@ -20,14 +20,15 @@ use Rattle.tables.specs.Check.{wholeRecords, checkTable}
 use Rattle.operand.specs.Operand.{kinds, kindOf, ofKind, interpret, isList}
 use Rattle.decoder.specs.Instr.{headAt}
 use Rattle.decoder.specs.Decode.{partsFrom, readParts, decodeAt}
-use Rattle.cases.specs.Sample.{padded, opcode, typed, opcodes, types, four, fours, layout}
+use Rattle.sample.specs.Sample.{padded, opcode, typed, opcodes, types, four, fours, layout}
 use Rattle.flow.specs.Flow.{flowNames, flows, flowNumber, flowBy}
-use Rattle.targets.specs.Targets.{poolElem, operandOf, indexOf, numberOf, distanceBy, jumpTarget, jumpTable, tableBy, sizedBy}
+use Rattle.targets.specs.Targets.{poolElem, operandOf, indexOf, numberOf, distanceBy, jumpTarget, jumpTable, tableBy, sizedBy, entryAt}
 use Rattle.disasm.specs.Listing.{Files, poolBy}
-use Rattle.jumps.specs.Jumps.{targetOf, targetCall, tableOf, tableCall}
+use Rattle.jumps.specs.Jumps.{targetOf, targetCall, tableOf, tableCall, entryCall}
 use Rattle.jumps.specs.declared.Owner.the-variants as owner
 use Rattle.jumps.specs.declared.TargetAt.the-variants as target-at
 use Rattle.jumps.specs.declared.TableAt.the-variants as table-at
+use Rattle.jumps.specs.declared.EntryAnswer.the-variants as entry-answer
 
 -- an object of kind 0, by its first slot and their count
 abbrev object : ℕ → ℕ → List ℕ
@@ -68,9 +69,12 @@ unfolding targetCall targetOf opcodes opcode typed types padded four fours layou
 target-cases = refl
 
 -- 01's switch with and without its pool
+abbrev switch : List ℕ
+switch = 0x09 ∷ 0x00 ∷ 0x02 ∷ 0x05 ∷ 0x0b ∷ []
+
 pub table-cases :
-    (tableCall (files opcodes) (owner.Object 0) (0x09 ∷ 0x00 ∷ 0x02 ∷ 0x05 ∷ 0x0b ∷ []) 0
-    ∷ tableCall (files opcodes) owner.Nothing (0x09 ∷ 0x00 ∷ 0x02 ∷ 0x05 ∷ 0x0b ∷ []) 0
+    (tableCall (files opcodes) (owner.Object 0) switch 0
+    ∷ tableCall (files opcodes) owner.Nothing switch 0
     ∷ [])
     ≡ (table-at.At (record { start = 0; count = 2; base = pos 5 }) ∷ table-at.Nothing ∷ [])
 unfolding tableCall tableOf opcodes opcode typed types padded four fours layout checkTable wholeRecords within firstFrom nameOk opcodeOk sizeFits sizeGood nameFits isNamed typeNames
@@ -78,6 +82,22 @@ unfolding tableCall tableOf opcodes opcode typed types padded four fours layout 
     prefixOp readParts partsFrom width isList kinds kindOf ofKind interpret modulo wrap32 signed nameAt flowNames flows flowNumber flowBy operandOf indexOf
     numberOf jumpTable tableBy sizedBy
 table-cases = refl
+
+-- its entries: one shown, the reference, none; without its pool; what is no switch; the code's end
+pub entry-cases :
+    (entryCall (files opcodes) (owner.Object 0) switch 0 0
+    ∷ entryCall (files opcodes) (owner.Object 0) switch 0 1
+    ∷ entryCall (files opcodes) (owner.Object 0) switch 0 2
+    ∷ entryCall (files opcodes) owner.Nothing switch 0 0
+    ∷ entryCall (files opcodes) (owner.Object 0) switch 4 0
+    ∷ entryCall (files opcodes) (owner.Object 0) switch 5 0
+    ∷ [])
+    ≡ (entry-answer.Shown (pos 5) 4 ∷ entry-answer.Skipped ∷ entry-answer.Beyond ∷ entry-answer.Nothing ∷ entry-answer.Nothing ∷ entry-answer.End ∷ [])
+unfolding entryCall tableCall tableOf opcodes opcode typed types padded four fours layout checkTable wholeRecords within firstFrom nameOk opcodeOk sizeFits sizeGood nameFits isNamed typeNames
+    ranges rangeOf leAt checkStore sizesOk objectOk slotOk valueOk fieldsOk falls fallsIn objectOf slotOf layoutOf poolBy slotAt poolElem elemAt down smiBytes decodeAt headAt
+    prefixOp readParts partsFrom width isList kinds kindOf ofKind interpret modulo wrap32 signed nameAt flowNames flows flowNumber flowBy operandOf indexOf
+    numberOf jumpTable tableBy sizedBy entryAt
+entry-cases = refl
 
 -- a switch whose count is signed: 16 at its start, and only of the table
 abbrev signedSwitch : List ℕ

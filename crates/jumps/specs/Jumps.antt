@@ -1,8 +1,9 @@
--- The target of a jump and the table of a switch at a place of lent code, as calls of 01: the checks for what they are lent, in 01's order,
--- then the instruction at the place. They are lent no name files: those of `Files` are empty.
+-- The target of a jump, and the table of a switch and its entries, at a place of lent code, as calls of 01: the checks for what they are
+-- lent, in 01's order, then the instruction at the place. They are lent no name files: those of `Files` are empty.
 use Prim.Native.Nat.{ℕ}
-use mathlib.Core.Bool.{Bool}
+use mathlib.Core.Bool.{Bool, cond}
 use mathlib.Core.List.{List}
+use lib.Dec.{ltb}
 use Rattle.refusal.specs.declared.Check.{Check}
 use Rattle.refusal.specs.declared.Check.the-variants.{Ok, Refused}
 use Rattle.refusal.specs.Check.{refusalAt, orElse}
@@ -24,7 +25,10 @@ use Rattle.targets.specs.declared.Target.{Target}
 use Rattle.targets.specs.declared.Target.the-variants as target
 use Rattle.targets.specs.declared.Table.{Table}
 use Rattle.targets.specs.declared.Table.the-variants as table
-use Rattle.targets.specs.Targets.{poolElem, found, jumpTarget, jumpTable}
+use Rattle.targets.specs.declared.Entries.{Entries}
+use Rattle.targets.specs.declared.Entry.{Entry}
+use Rattle.targets.specs.declared.Entry.the-variants as entry
+use Rattle.targets.specs.Targets.{poolElem, found, here, jumpTarget, jumpTable, entryAt}
 use Rattle.disasm.specs.Listing.{Files, poolBy, poolOf}
 use Rattle.jumps.specs.declared.Owner.{Owner}
 use Rattle.jumps.specs.declared.Owner.the-variants as owner
@@ -32,6 +36,8 @@ use Rattle.jumps.specs.declared.TargetAt.{TargetAt}
 use Rattle.jumps.specs.declared.TargetAt.the-variants as target-at
 use Rattle.jumps.specs.declared.TableAt.{TableAt}
 use Rattle.jumps.specs.declared.TableAt.the-variants as table-at
+use Rattle.jumps.specs.declared.EntryAnswer.{EntryAnswer}
+use Rattle.jumps.specs.declared.EntryAnswer.the-variants as entry-answer
 
 -- "Each call makes only the checks for what it is lent": rows 6 to 8 where an object is. It must be there; no header is wanted of it.
 abbrev pub checkOwner : List ℕ → List ℕ → List ℕ → Owner → Check
@@ -105,3 +111,23 @@ tableOf ops pooled d at = tableAfter (d .outcome) (tableTold (jumpTable pooled (
 -- 01's `jump_table`
 unfoldable pub tableCall : Files → Owner → List ℕ → ℕ → TableAt
 tableCall f w code at = tableUnless (checkLent f w code) (tableOf (f .opcodes) (found (ownerPool f w)) (decodedAt f code at) at)
+
+-- "Elements that are no small integer are skipped."
+abbrev pub entryTold : Entry → EntryAnswer
+entryTold (entry.Shown case to) = entry-answer.Shown case to
+entryTold entry.Skipped = entry-answer.Skipped
+
+-- the table's entries are those below its count; their distances count from a place
+abbrev pub entryIn : (ℕ → Elem) → ℕ → Entries → ℕ → EntryAnswer
+entryIn el from e k = cond (ltb k (e .count)) (entryTold (entryAt el from e k)) entry-answer.Beyond
+
+-- entry k, by the answer that `jump_table` gives
+abbrev pub entryOf : (ℕ → Elem) → ℕ → TableAt → ℕ → EntryAnswer
+entryOf el from (table-at.At e) k = entryIn el from e k
+entryOf el from table-at.Nothing k = entry-answer.Nothing
+entryOf el from table-at.End k = entry-answer.End
+entryOf el from (table-at.Refused r) k = entry-answer.Refused r
+
+-- entry k of 01's `jump_table`: "`{ 5: @4 }`" shows case 5 and target 4
+unfoldable pub entryCall : Files → Owner → List ℕ → ℕ → ℕ → EntryAnswer
+entryCall f w code at k = entryOf (ownerElem f w) (here (decodedAt f code at .instr)) (tableCall f w code at) k

@@ -1,4 +1,4 @@
-// The target of a jump and the table of a switch at a place of lent code, with 01's checks of all that is lent.
+// The target of a jump, and the table of a switch and its entries, at a place of lent code, with 01's checks of all that is lent.
 use decoder::Decoded;
 use decoder::Outcome;
 use flow::Flow;
@@ -6,6 +6,7 @@ use refusal::Check;
 use refusal::Refusal;
 use tables::Layout;
 use targets::Entries;
+use targets::Entry;
 use targets::Pool;
 use targets::Table;
 use targets::Target;
@@ -13,7 +14,7 @@ ghost use mathlib.Core.Path.{_≡_};
 ghost use mathlib.Core.List.{[]};
 ghost use Rattle.flow.specs.Flow.{flowOf};
 ghost use Rattle.targets.specs.Targets.{poolSearched, found};
-ghost use Rattle.jumps.specs.Jumps.{checkOwner, checkLent, ownerFound, targetTold, targetOf, targetCall, tableTold, tableOf, tableCall};
+ghost use Rattle.jumps.specs.Jumps.{checkOwner, checkLent, ownerFound, targetTold, targetOf, targetCall, tableTold, tableOf, tableCall, entryTold, entryIn, entryOf, entryCall};
 
 // The object whose pool the code uses, if one is lent. Without one no store is lent either.
 pub enum Owner {
@@ -32,6 +33,17 @@ pub enum TargetAt {
 // The entries of a switch. End is the code's end; Nothing is no table.
 pub enum TableAt {
     At(Entries),
+    Nothing,
+    End,
+    Refused(Refusal),
+}
+
+// An entry of a switch. Skipped is an element that is no small integer; Beyond is no entry of the table; End is the code's end; Nothing
+// is no table.
+pub enum EntryAnswer {
+    Shown { case: i32, target: u64 },
+    Skipped,
+    Beyond,
     Nothing,
     End,
     Refused(Refusal),
@@ -83,6 +95,35 @@ pub fn jump_table(
             let pool = pool_of(objects, slots, shape, owner);
             let d = bytecode::decode_with(opcodes, types, layout, code, at);
             table_of(opcodes, pool, d, at)
+        }
+    }
+}
+
+// Entry k of the switch at a place, with the checks of jump_table.
+pub fn jump_entry(
+    code: &[u8],
+    at: usize,
+    opcodes: &[u8],
+    types: &[u8],
+    layout: &[u8],
+    objects: &[u8],
+    slots: &[u8],
+    payload: &[u8],
+    owner: Owner,
+    k: usize,
+) -> EntryAnswer
+    ensures { λ r. ⌜ r ≡ entryCall (record { opcodes = now (opcodes .entry); types = now (types .entry); runtime = []; intrinsic = []; layout = now (layout .entry); objects = now (objects .entry); slots = now (slots .entry); payload = now (payload .entry) }) owner (now (code .entry)) at k ⌝ }
+{
+    match check_lent(code, opcodes, types, layout, objects, slots, payload, owner) {
+        Check::Refused(refusal) => EntryAnswer::Refused(refusal),
+        Check::Ok => {
+            let shape = tables::layout_of(layout);
+            let pool = pool_of(objects, slots, shape, owner);
+            let d = bytecode::decode_with(opcodes, types, layout, code, at);
+            let table = table_of(opcodes, pool, d, at);
+            let instr = d.instr;
+            let from = targets::here(instr);
+            entry_of(slots, payload, shape.tagged_size, pool, from, table, k)
         }
     }
 }
@@ -182,6 +223,53 @@ fn table_of(opcodes: &[u8], pool: Pool, d: Decoded, at: usize) -> TableAt
             let flow = flow_of(opcodes, instr.opcode);
             table_told(targets::jump_table(pool, flow, instr), at)
         }
+    }
+}
+
+// Entry k of a table whose distances count from place from.
+fn entry_of(
+    slots: &[u8],
+    payload: &[u8],
+    ts: u8,
+    pool: Pool,
+    from: u64,
+    table: TableAt,
+    k: usize,
+) -> EntryAnswer
+    ensures { λ r. ⌜ r ≡ entryOf (poolSearched (now (slots .entry)) (now (payload .entry)) ts pool) from table k ⌝ }
+{
+    match table {
+        TableAt::At(e) => entry_in(slots, payload, ts, pool, from, e, k),
+        TableAt::Nothing => EntryAnswer::Nothing,
+        TableAt::End => EntryAnswer::End,
+        TableAt::Refused(refusal) => EntryAnswer::Refused(refusal),
+    }
+}
+
+fn entry_in(
+    slots: &[u8],
+    payload: &[u8],
+    ts: u8,
+    pool: Pool,
+    from: u64,
+    e: Entries,
+    k: usize,
+) -> EntryAnswer
+    ensures { λ r. ⌜ r ≡ entryIn (poolSearched (now (slots .entry)) (now (payload .entry)) ts pool) from e k ⌝ }
+{
+    if k < e.count as usize {
+        entry_told(targets::entry_at(slots, payload, ts, pool, from, e, k as u16))
+    } else {
+        EntryAnswer::Beyond
+    }
+}
+
+fn entry_told(entry: Entry) -> EntryAnswer
+    ensures { λ r. ⌜ r ≡ entryTold entry ⌝ }
+{
+    match entry {
+        Entry::Shown { case, target } => EntryAnswer::Shown { case, target },
+        Entry::Skipped => EntryAnswer::Skipped,
     }
 }
 

@@ -1,5 +1,5 @@
--- The listing within the limit; what is shown, and that a buffer of 64 bytes has room for it. Assumes nothing.
-use Prim.Native.Nat.{ℕ, _<_, _≤_, _^_}
+-- The listing within the limit; what is shown, and that the program's buffer has room for it. Assumes nothing.
+use Prim.Native.Nat.{ℕ, _≤_}
 use mathlib.Core.Path.{_≡_, refl, sym, ap, subst, _∙_}
 use mathlib.Core.Bool.{Bool, true, false, cond}
 use mathlib.Core.List.{List, _++_}
@@ -31,10 +31,10 @@ use Rattle.disasm.specs.declared.Listed.{Listed}
 use Rattle.disasm.specs.Lines.{linesText, listingCheck}
 use Rattle.disasm.specs.Listing.{Files, headerText, unless, putText, viewBy, listView, listHeader, poolOf, listObject, checkFiles, listCall}
 use Rattle.walk.specs.declared.Walked.{Walked}
-use Rattle.walk.specs.declared.Walked.the-variants as walked
-use Rattle.walk.specs.Walk as walk
 use Rattle.walk.specs.Walk.{walkCheck, walkFound, walkSource, headerCheck, headerAt, objectSource, walkCall}
 use Rattle.program.specs.Printed.{refusalText, withinLimit, limitCheck, limited, told, shown, Printed, walkText, walkLimited, walkAnswer, walkShown}
+use Rattle.walk.specs.declared.Walked.the-variants as walked
+use Rattle.walk.specs.Walk as walk
 use Rattle.header.specs.declared.HeaderAt.the-variants as header-at
 use Rattle.disasm.specs.declared.Listed.the-variants as listed-as
 
@@ -114,30 +114,35 @@ line r = rw (length-append, length-append, length-append, length-append) (omega 
 
 -- ---- what is printed
 
--- a text that is put whole where the buffer has 64 bytes or more
-printed : (t o o′ : List ℕ) (r : ℕ) → length o < 2 ^ 63 → (64 ≤ length o → length t ≤ length o) → Put o 0 t o′ r → Printed t o o′ r
+-- a text that is put whole
+printed : (t o o′ : List ℕ) (r : ℕ) → length o ≡ 65536 → length t ≤ 65536 → Put o 0 t o′ r → Printed t o o′ r
 printed t o o′ r s h p = record {
-  put = p;
-  within = λ k. omega (arith, h k, kept p, p .end);
-  start = λ k. rw (size (h k), fits (h k) p) (take-append-seam t (drop (length t) o));
-  rest = λ k. rw (size (h k), fits (h k) p) (drop-append-seam t (drop (length t) o));
+  within = omega (arith, size, room, kept p);
+  start = rw (size, fits room p) (take-append-seam t (drop (length t) o));
+  rest = rw (size, fits room p) (drop-append-seam t (drop (length t) o));
 }
   where
-    size : length t ≤ length o → r ≡ length t
-    size l = omega (arith, p .end)
+    room : length t ≤ length o
+    room = omega (arith, s)
+
+    size : r ≡ length t
+    size = omega (arith, p .end)
 
 -- for a listing, and for a refusal whose line was put into the buffer that the call left
-module _ (f : Files) (o : List ℕ) (small : length o < 2 ^ 63) {x : Listed} {o₁ : List ℕ} (e : x ≡ limited f o .0) (e₁ : o₁ ≡ limited f o .1) where
-  pub printed-listing : (n : ℕ) → x ≡ listed-as.Done n → Printed (shown f (length o)) o o₁ n
-  printed-listing n h =
-      let a : Told o (listed-as.Done n) o₁ (shown f (length o)) = rw (← e, ← e₁, h) at (limited-tells f o) in
-      printed (shown f (length o)) o o₁ n small (λ k. a .0)
-      (record { text = a .2 ∙ sym (fits {o = o} {t = shown f (length o)} (a .0) (record { text = refl; end = refl })); end = omega (arith, a .0, a .1) })
+module _ (f : Files) (o : List ℕ) (whole : length o ≡ 65536) {x : Listed} {o₁ : List ℕ} (e : x ≡ limited f o .0) (e₁ : o₁ ≡ limited f o .1) where
+  tells : Told o x o₁ (shown f 65536)
+  tells = rw (← e, ← e₁, whole) at (limited-tells f o)
 
-  pub printed-refusal : (r : Refusal) {o′ : List ℕ} {n : ℕ} → x ≡ listed-as.Refused r → Put o₁ 0 (refusalText r) o′ n → Printed (shown f (length o)) o o′ n
+  pub printed-listing : (n : ℕ) → x ≡ listed-as.Done n → Printed (shown f 65536) o o₁ n
+  printed-listing n h =
+      let a : Told o (listed-as.Done n) o₁ (shown f 65536) = rw h at tells in
+      printed (shown f 65536) o o₁ n whole (omega (arith, a .0, whole))
+      (record { text = a .2 ∙ sym (fits {o = o} {t = shown f 65536} (a .0) (record { text = refl; end = refl })); end = omega (arith, a .0, a .1, whole) })
+
+  pub printed-refusal : (r : Refusal) {o′ : List ℕ} {n : ℕ} → x ≡ listed-as.Refused r → Put o₁ 0 (refusalText r) o′ n → Printed (shown f 65536) o o′ n
   printed-refusal r {o′} {n} h p =
-      let a : Told o (listed-as.Refused r) o₁ (shown f (length o)) = rw (← e, ← e₁, h) at (limited-tells f o) in
-      printed (shown f (length o)) o o′ n small (λ k. rw (a .1) (omega (arith, line r))) (rw (a .0, ← a .1) at p)
+      let a : Told o (listed-as.Refused r) o₁ (shown f 65536) = rw h at tells in
+      printed (shown f 65536) o o′ n whole (rw (a .1) (omega (arith, line r))) (rw (a .0, ← a .1) at p)
 
 -- ---- the walk program
 
@@ -197,6 +202,6 @@ walk-line walked.Closed = omega arith
 walk-line (walked.Leaves n o) = rw (length-append, length-append, length-append, length-append) (omega (arith, digits-few n, digits-few o))
 walk-line (walked.Refused r) = line r
 
-pub walk-printed : (f : Files) (o : List ℕ) → length o < 2 ^ 63 → (w : Walked) → w ≡ walkAnswer f 65536 → {o′ : List ℕ} {n : ℕ} → Put o 0 (walkText w) o′ n → Printed (walkShown f) o o′ n
-walk-printed f o small w e {o′} {n} p =
-    subst (λ (x : Walked). Printed (walkText x) o o′ n) e (printed (walkText w) o o′ n small (λ k. omega (arith, walk-line w)) p)
+pub walk-printed : (f : Files) (o : List ℕ) → length o ≡ 65536 → (w : Walked) → w ≡ walkAnswer f 65536 → {o′ : List ℕ} {n : ℕ} → Put o 0 (walkText w) o′ n → Printed (walkShown f) o o′ n
+walk-printed f o whole w e {o′} {n} p =
+    subst (λ (x : Walked). Printed (walkText x) o o′ n) e (printed (walkText w) o o′ n whole (omega (arith, walk-line w)) p)

@@ -9,7 +9,6 @@ use Rattle.laws.specs.Ascii.{ascii}
 use Rattle.refusal.specs.declared.Refusal.{Refusal}
 use Rattle.refusal.specs.declared.Check.{Check}
 use Rattle.refusal.specs.Check.{orElse, unlessGood}
-use Rattle.text.specs.Put.{Put}
 use Rattle.text.specs.Texts.{decimal}
 use Rattle.tables.specs.Check.{checkTable}
 use Rattle.disasm.specs.declared.Listed.{Listed}
@@ -67,10 +66,9 @@ walkAnswer f n = walkLimited f (replicate n 0) .0
 abbrev pub walkShown : Files → List ℕ
 walkShown f = walkText (walkAnswer f 65536)
 
--- The text t was put at the start of the buffer o, as far as o reaches, which left o′; r is the text's length. A buffer of 64 bytes or more
--- reaches: its first r bytes are the text, and the others are as they were.
+-- What a program that prints the text t leaves: its buffer of 65,536 bytes was o and is o′. The first r bytes are t, and the others are as
+-- they were.
 pub record Printed (t o o′ : List ℕ) (r : ℕ) : Type 0 where
-  pub put : Put o 0 t o′ r
-  pub within : 64 ≤ length o → r ≤ length o′
-  pub start : 64 ≤ length o → take r o′ ≡ t
-  pub rest : 64 ≤ length o → drop r o′ ≡ drop r o
+  pub within : r ≤ length o′
+  pub start : take r o′ ≡ t
+  pub rest : drop r o′ ≡ drop r o

@@ -12,7 +12,7 @@ ghost use Rattle.walk.specs.declared.Walked.the-variants as walked;
 ghost use Rattle.program.specs.Printed.{refusalText, withinLimit, limited, shown, Printed, walkText, walkAnswer, walkShown};
 
 // The line `refused 14 at 1`.
-pub fn put_refusal(out: &mut [u8], at: usize, r: Refusal) -> usize
+fn put_refusal(out: &mut [u8], at: usize, r: Refusal) -> usize
     ensures { λ e. ⌜ Put (now (out .entry)) at (refusalText r) (now (out .exit)) e ⌝ }
 {
     let p = text::put_bytes(out, at, b"refused ");
@@ -22,10 +22,9 @@ pub fn put_refusal(out: &mut [u8], at: usize, r: Refusal) -> usize
     text::put_byte(out, p, b'\n')
 }
 
-// What `jscd_list` prints, from the start of the buffer on: the listing of object 0, or the line of its refusal. It answers how long that is,
-// which a buffer of 64 bytes always has room for.
+// What `jscd_list` prints, from the start of the buffer on: the listing of object 0, or the line of its refusal. It answers how long that is.
 pub fn list_text(
-    out: &mut [u8],
+    out: &mut [u8; 65536],
     opcodes: &[u8],
     types: &[u8],
     runtime: &[u8],
@@ -35,7 +34,7 @@ pub fn list_text(
     slots: &[u8],
     payload: &[u8],
 ) -> usize
-    ensures { λ r. ⌜ Printed (shown (record { opcodes = now (opcodes .entry); types = now (types .entry); runtime = now (runtime .entry); intrinsic = now (intrinsic .entry); layout = now (layout .entry); objects = now (objects .entry); slots = now (slots .entry); payload = now (payload .entry) }) (length (now (out .entry)))) (now (out .entry)) (now (out .exit)) r ⌝ }
+    ensures { λ r. ⌜ Printed (shown (record { opcodes = now (opcodes .entry); types = now (types .entry); runtime = now (runtime .entry); intrinsic = now (intrinsic .entry); layout = now (layout .entry); objects = now (objects .entry); slots = now (slots .entry); payload = now (payload .entry) }) 65536) (now (out .entry)) (now (out .exit)) r ⌝ }
 {
     let listed = list_limited(
         out,
@@ -93,7 +92,7 @@ fn list_limited(
 
 // What `jscd_walk` prints, from the start of the buffer on: the answer of the walk check on object 0, or the line of its refusal.
 pub fn walk_text(
-    out: &mut [u8],
+    out: &mut [u8; 65536],
     opcodes: &[u8],
     types: &[u8],
     runtime: &[u8],
@@ -119,7 +118,7 @@ pub fn walk_text(
 }
 
 // A line for the answer of a walk check.
-pub fn put_walked(out: &mut [u8], at: usize, walked: Walked) -> usize
+fn put_walked(out: &mut [u8], at: usize, walked: Walked) -> usize
     ensures { λ e. ⌜ Put (now (out .entry)) at (walkText walked) (now (out .exit)) e ⌝ }
 {
     match walked {

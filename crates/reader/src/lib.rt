@@ -1,9 +1,9 @@
 // A slot reader: a struct that keeps the lent slot records and a cursor, over plain functions. The functions over the struct are
-// proved by hand; the work is in `read_at`, and a caller of `slot_read` needs no proof by hand.
+// proved by hand; the work is in `read_at` and `next_at`, and a caller of `read_step` needs no proof by hand.
 use store::Slot;
 ghost use mathlib.Core.Path.{_≡_};
 ghost use Rattle.store.specs.Records.{slotCount};
-ghost use Rattle.reader.specs.Reading.{readAt};
+ghost use Rattle.reader.specs.Reading.{readAt, nextAt, stepAt};
 
 // The lent slot records, and the number of the record that is read next.
 pub struct SlotReader<'a> {
@@ -16,6 +16,12 @@ pub enum Read {
     End,
 }
 
+// What was read, and the cursor behind it.
+pub struct Stepped {
+    pub read: Read,
+    pub at: usize,
+}
+
 // A reader at a record.
 pub fn new<'a>(slots: &'a [u8], at: usize) -> SlotReader<'a>
     ensures { λ r. ⌜ (r .slots ≡ slots .entry) × (r .at ≡ at) ⌝ }
@@ -23,18 +29,23 @@ pub fn new<'a>(slots: &'a [u8], at: usize) -> SlotReader<'a>
     SlotReader { slots, at }
 }
 
-// The slot at the cursor, or the end.
-pub fn next<'a>(r: SlotReader<'a>) -> Read
-    ensures { λ s. ⌜ s ≡ readAt (now (r .entry .slots)) (r .entry .at) ⌝ }
+// The slot at the cursor, which moves to the next record; or the end, where the cursor stays.
+pub fn next<'s, 'a>(r: &'s mut SlotReader<'a>) -> Read
+    ensures { λ s. ⌜ (s ≡ readAt (now (now (r .entry) .slots)) (now (r .entry) .at)) × ((now (r .exit) .slots ≡ now (r .entry) .slots) × (now (r .exit) .at ≡ nextAt (now (now (r .entry) .slots)) (now (r .entry) .at))) ⌝ }
 {
-    read_at(r.slots, r.at)
+    let slots = r.slots;
+    let at = r.at;
+    r.at = next_at(slots, at);
+    read_at(slots, at)
 }
 
-// The slot that a reader at a record finds.
-pub fn slot_read(slots: &[u8], at: usize) -> Read
-    ensures { λ r. ⌜ r ≡ readAt (now (slots .entry)) at ⌝ }
+// What a reader at a record finds, and where its cursor is then.
+pub fn read_step(slots: &[u8], at: usize) -> Stepped
+    ensures { λ s. ⌜ s ≡ stepAt (now (slots .entry)) at ⌝ }
 {
-    next(new(slots, at))
+    let mut r = new(slots, at);
+    let read = next(&mut r);
+    Stepped { read, at: r.at }
 }
 
 // How many slots a reader finds, one after the other from record 0 to the end.
@@ -43,11 +54,13 @@ pub fn slots_read(slots: &[u8]) -> usize
 {
     let mut at = 0;
     loop {
-        match slot_read(slots, at) {
+        let step = read_step(slots, at);
+        at = step.at;
+        let read = step.read;
+        match read {
             Read::Found(_) => {}
             Read::End => return at,
         }
-        at += 1;
     }
 }
 
@@ -59,4 +72,11 @@ fn read_at(slots: &[u8], at: usize) -> Read
     } else {
         Read::End
     }
+}
+
+fn next_at(slots: &[u8], at: usize) -> usize
+    ensures { λ r. ⌜ r ≡ nextAt (now (slots .entry)) at ⌝ }
+{
+    let count = store::slot_count(slots);
+    if at < count { at + 1 } else { at }
 }

@@ -1,8 +1,10 @@
 // Whole listings of object 0.
-use crate::items::Files;
-use crate::items::file;
-use crate::said;
 use disasm::Listed;
+use vectors::items::Files;
+use vectors::items::Part;
+use vectors::items::file;
+use vectors::items::lent;
+use vectors::said;
 
 // 0: what the program prints, in a buffer as long as the program's.
 pub fn listing(bytes: &[u8], files: Files, call: &[u8]) -> bool {
@@ -10,16 +12,35 @@ pub fn listing(bytes: &[u8], files: Files, call: &[u8]) -> bool {
     listing_in(bytes, files, call, &mut out)
 }
 
-fn listing_in(bytes: &[u8], files: Files, call: &[u8], out: &mut [u8]) -> bool {
+fn listing_in(bytes: &[u8], files: Files, call: &[u8], out: &mut [u8; 65536]) -> bool {
     let n = list(bytes, files, out);
     if words::byte_at(call, 0) == 2 {
-        return said::is_refusal_line(call, out, n);
+        return is_refusal_line(call, out, n);
     }
     said::is_text(call, out, n)
 }
 
+// Status 2, and the line of its number and place is the first n bytes of out.
+fn is_refusal_line(said: &[u8], out: &[u8], n: usize) -> bool {
+    let mut line = [0u8; 64];
+    is_refusal_line_in(said, out, n, &mut line)
+}
+
+fn is_refusal_line_in(said: &[u8], out: &[u8], n: usize, line: &mut [u8]) -> bool {
+    if !said::has_form(said, 2, 17) {
+        return false;
+    }
+    let p = text::put_bytes(line, 0, b"refused ");
+    let p = text::put_decimal(line, p, words::u64_at(said, 1));
+    let p = text::put_bytes(line, p, b" at ");
+    let p = text::put_decimal(line, p, words::u64_at(said, 9));
+    let len = text::put_byte(line, p, b'\n');
+    let part = Part { at: 0, len };
+    said::is_start(lent(line, part), out, n)
+}
+
 // What the program prints, and its length.
-pub fn list(bytes: &[u8], files: Files, out: &mut [u8]) -> usize {
+pub fn list(bytes: &[u8], files: Files, out: &mut [u8; 65536]) -> usize {
     program::list_text(
         out,
         file(bytes, files, 0),

@@ -1,40 +1,44 @@
-// Replays recorded vectors as the program `replay` does: whole listings, numbers in slots, targets, entries and the largest register.
-mod counts;
+// Replays recorded vectors as the program `replay` does: whole listings, headers, numbers in slots, targets and entries.
+mod entries;
 mod fields;
-mod items;
-mod jumps;
+mod for_c;
 mod listings;
-mod said;
 mod shown;
 
-use counts::Counts;
-use counts::ask_file;
-use libc::STDERR_FILENO;
-use libc::STDOUT_FILENO;
-
-// Calls asked, and how many answers differed.
-struct Total {
-    calls: u64,
-    differences: u64,
-}
+use vectors::counts::Counts;
+use vectors::counts::Outcome;
+use vectors::counts::counted;
+use vectors::counts::judged;
+use vectors::counts::no_counts;
+use vectors::counts::numbered;
+use vectors::counts::with_unknown;
+use vectors::items::Files;
+use vectors::items::Item;
+use vectors::items::Part;
+use vectors::items::What;
+use vectors::items::files_after;
+use vectors::items::item_at;
+use vectors::items::kind_of;
+use vectors::items::lent;
+use vectors::items::no_files;
+use vectors::lines::Total;
+use vectors::lines::both;
+use vectors::lines::print_counts;
+use vectors::lines::print_total;
+use vectors::lines::print_wrong;
+use vectors::lines::read;
 
 fn main() {
     let named = relist(b"named.vec", true);
     let rows = relist(b"rows.vec", false);
     let list = relist(b"list.vec", false);
     let jump = relist(b"jump.vec", false);
+    let entry = relist(b"entry.vec", false);
+    let headers = both(relist(b"header.vec", false), relist(b"layout.vec", false));
     let v8 = relist(b"v8list.vec", false);
-    let total = both(both(rows, named), both(list, both(jump, v8)));
-    io::write_all(STDOUT_FILENO, b"total");
-    print_numbers(total.calls, total.differences);
-    io::write_all(STDOUT_FILENO, b"\n");
-}
-
-fn both(a: Total, b: Total) -> Total {
-    Total {
-        calls: std::num::wrapping_add_u64(a.calls, b.calls),
-        differences: std::num::wrapping_add_u64(a.differences, b.differences),
-    }
+    let lists = both(both(named, rows), both(list, v8));
+    print_total(both(lists, both(both(jump, entry), headers)));
+    print_wrong(relist(b"wrong.vec", false));
 }
 
 // A file, in a buffer that is longer than any of them; its listings are printed, or not.
@@ -48,93 +52,65 @@ fn relist_in(name: &[u8], shows: bool, buffer: &mut [u8; 1048576]) -> Total {
 }
 
 fn relist_with(name: &[u8], shows: bool, buffer: &mut [u8]) -> Total {
-    let fd = os::open_read(name);
-    if fd < 0 {
-        os::fail(name);
-        return nothing();
-    }
-    let n = io::read_full(fd, buffer);
-    libc::close(fd);
-    if n == 0 {
-        os::fail(name);
-        return nothing();
-    }
-    if n == buffer.len() {
-        io::write_all(STDERR_FILENO, name);
-        io::write_all(STDERR_FILENO, b": too long\n");
-        return nothing();
-    }
+    let len = read(name, buffer);
+    let whole = Part { at: 0, len };
     if shows {
-        shown::show_file(&buffer[..n]);
+        shown::show_file(lent(buffer, whole));
     }
-    print_counts(name, ask_file(&buffer[..n]))
+    print_counts(name, ask_file(lent(buffer, whole)))
 }
 
-fn nothing() -> Total {
-    Total {
-        calls: 0,
-        differences: 0,
+fn ask_file(bytes: &[u8]) -> Counts {
+    let mut counts = no_counts();
+    let mut files = no_files();
+    let mut at = 0;
+    while at < bytes.len() {
+        let item = item_at(bytes, at);
+        files = files_after(bytes, files, item);
+        counts = counts_after(bytes, files, counts, item);
+        at = item.next;
     }
+    counts
 }
 
-fn print_counts(name: &[u8], counts: Counts) -> Total {
-    io::write_all(STDOUT_FILENO, name);
-    io::write_all(STDOUT_FILENO, b"\n");
-    print_functions(counts);
-    io::write_all(STDOUT_FILENO, b"not asked here: ");
-    io::print_decimal(STDOUT_FILENO, counts.not_here);
-    io::write_all(STDOUT_FILENO, b"\n");
-    Total {
-        calls: counts.asked,
-        differences: counts.differing,
-    }
-}
-
-fn print_functions(counts: Counts) {
-    let mut f: usize = 0;
-    while f < 8 {
-        print_function(
-            f as u8,
-            counts.calls[f],
-            counts.differences[f],
-            counts.first[f],
-        );
-        f += 1;
+fn counts_after(bytes: &[u8], files: Files, counts: Counts, item: Item) -> Counts {
+    let body = item.body;
+    match kind_of(item) {
+        What::Sets => counts,
+        What::Call(f) => counts_call(bytes, files, numbered(counts), f, body),
+        What::Unknown => with_unknown(counts),
     }
 }
 
-// Name, calls, differences, and the number of the first call that differs; no line where there was no call.
-fn print_function(f: u8, calls: u64, differences: u64, first: u64) {
-    if calls == 0 {
-        return;
-    }
-    print_name(f);
-    print_numbers(calls, differences);
-    if differences != 0 {
-        io::write_all(STDOUT_FILENO, b", the first is call ");
-        io::print_decimal(STDOUT_FILENO, first);
-    }
-    io::write_all(STDOUT_FILENO, b"\n");
-}
-
-fn print_numbers(calls: u64, differences: u64) {
-    io::write_all(STDOUT_FILENO, b" ");
-    io::print_decimal(STDOUT_FILENO, calls);
-    io::write_all(STDOUT_FILENO, b" calls, ");
-    io::print_decimal(STDOUT_FILENO, differences);
-    io::write_all(STDOUT_FILENO, b" differences");
-}
-
-fn print_name(f: u8) {
+// A listing is asked of the call for C too, unless a file is longer than the listing program reads: then the program alone refuses.
+fn counts_call(bytes: &[u8], files: Files, counts: Counts, f: u8, body: Part) -> Counts {
+    let call = lent(bytes, body);
+    let after = counted(counts, f, asked(bytes, files, f, call));
     match f {
-        0 => io::write_all(STDOUT_FILENO, b"listing"),
-        1 => io::write_all(STDOUT_FILENO, b"smi_slot"),
-        2 => io::write_all(STDOUT_FILENO, b"num_field"),
-        3 => io::write_all(STDOUT_FILENO, b"jump_target"),
-        4 => io::write_all(STDOUT_FILENO, b"jump_table"),
-        5 => io::write_all(STDOUT_FILENO, b"max_register"),
-        6 => io::write_all(STDOUT_FILENO, b"long_listing"),
-        _ => io::write_all(STDOUT_FILENO, b"unknown"),
+        0 => {
+            if for_c::is_short(files) {
+                counted(after, 27, judged(for_c::list(bytes, files, call)))
+            } else {
+                after
+            }
+        }
+        22 => counted(after, 27, judged(for_c::long_list(bytes, files, call))),
+        _ => after,
     }
-    ;
+}
+
+// Our own function f, on the same files.
+fn asked(bytes: &[u8], files: Files, f: u8, call: &[u8]) -> Outcome {
+    match f {
+        0 => judged(listings::listing(bytes, files, call)),
+        4 => judged(fields::smi_slot(bytes, files, call)),
+        5 => judged(fields::num_field(bytes, files, call)),
+        8 => judged(entries::jump_target(bytes, files, call)),
+        9 => judged(entries::jump_table(bytes, files, call)),
+        22 => judged(listings::long_listing(bytes, files, call)),
+        23 => judged(fields::header(bytes, files, call)),
+        24 => judged(entries::jump_entry(bytes, files, call)),
+        1..=18 => Outcome::NotHere,
+        _ => Outcome::Differs,
+    }
 }

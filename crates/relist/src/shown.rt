@@ -1,12 +1,12 @@
 // Prints the listings of a vector file: what the listing program prints for the same files.
-use crate::items::Files;
-use crate::items::Part;
-use crate::items::files_after;
-use crate::items::item_at;
-use crate::items::lent;
-use crate::items::no_files;
 use crate::listings;
 use libc::STDOUT_FILENO;
+use vectors::items::Files;
+use vectors::items::Part;
+use vectors::items::files_after;
+use vectors::items::item_at;
+use vectors::items::lent;
+use vectors::items::no_files;
 
 pub fn show_file(bytes: &[u8]) {
     let mut files = no_files();
@@ -27,7 +27,7 @@ fn show_item(bytes: &[u8], files: Files, kind: u8) {
     }
 }
 
-fn show_in(bytes: &[u8], files: Files, out: &mut [u8]) {
+fn show_in(bytes: &[u8], files: Files, out: &mut [u8; 65536]) {
     let n = listings::list(bytes, files, out);
     print_text(out, n);
 }

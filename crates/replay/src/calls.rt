@@ -1,28 +1,21 @@
 // One recorded call: our own function is asked on the same files, and its answer compared with the recorded one. A further function
-// is an arm in `replayed` and a function of its own, here or in `instructions`.
+// is an arm in `replayed` and a function of its own, here, in `slots` or in `instructions`.
 use crate::instructions;
-use crate::items::Files;
-use crate::items::Part;
-use crate::items::behind;
-use crate::items::file;
-use crate::items::lent;
-use crate::said;
+use crate::slots;
 use serializer::Elem;
 use serializer::ElemAnswer;
 use serializer::LenAnswer;
 use serializer::OffAnswer;
 use serializer::RawAnswer;
-use serializer::SlotAnswer;
 use serializer::Smi;
-use store::Inner;
-use store::Repeat;
-use store::SlotValue;
-
-pub enum Outcome {
-    Same,
-    Differs,
-    NotHere,
-}
+use vectors::counts::Outcome;
+use vectors::counts::judged;
+use vectors::items::Files;
+use vectors::items::Part;
+use vectors::items::behind;
+use vectors::items::file;
+use vectors::items::lent;
+use vectors::said;
 
 // A call of function f, whose body is a part of the vector file.
 pub fn replayed(bytes: &[u8], files: Files, f: u8, body: Part) -> Outcome {
@@ -36,21 +29,14 @@ pub fn replayed(bytes: &[u8], files: Files, f: u8, body: Part) -> Outcome {
         11 => judged(instructions::reg_name(bytes, files, call)),
         12 => judged(instructions::render_operand(bytes, files, call)),
         13 => judged(instructions::decode(bytes, files, call)),
-        14 => judged(slot_at(bytes, files, call)),
+        14 => judged(slots::slot_at(bytes, files, call)),
         15 => judged(table_check(bytes, files, call)),
         16 => judged(store_check(bytes, files, call)),
         17 => judged(instructions::instruction_text(bytes, files, call)),
         18 => judged(instructions::last_bytes(bytes, files, call)),
+        25 => judged(slots::slot_records(bytes, files, call)),
         0..=10 => Outcome::NotHere,
         _ => Outcome::Differs,
-    }
-}
-
-fn judged(same: bool) -> Outcome {
-    if same {
-        Outcome::Same
-    } else {
-        Outcome::Differs
     }
 }
 
@@ -82,7 +68,7 @@ fn store_check(bytes: &[u8], files: Files, call: &[u8]) -> bool {
     said::is_check(call, store::check_store(objects, slots, payload))
 }
 
-// The answer of raw_run_at, and what raw_at lends.
+// What raw_at answers, and what it lends.
 fn raw_at(bytes: &[u8], files: Files, call: &[u8]) -> bool {
     let objects = file(bytes, files, OBJECTS);
     let slots = file(bytes, files, SLOTS);
@@ -91,7 +77,7 @@ fn raw_at(bytes: &[u8], files: Files, call: &[u8]) -> bool {
     let object = words::u64_at(call, 0) as usize;
     let off = words::u64_at(call, 8);
     let len = words::u64_at(call, 16);
-    let part = serializer::raw_at(objects, slots, payload, ts, object, off, len);
+    let part = serializer::raw_part_at(objects, slots, payload, ts, object, off, len);
     let answer = serializer::raw_run_at(objects, slots, payload, ts, object, off, len);
     is_raw(behind(call, 24), answer, part, payload, len)
 }
@@ -184,43 +170,6 @@ fn decode_smi_bytes(call: &[u8]) -> bool {
     match serializer::decode_smi_bytes(lent(rest, given)) {
         Smi::Value(v) => said::is_number(behind(rest, n), words::bits64(v)),
         Smi::Nothing => said::is_nothing(behind(rest, n)),
-    }
-}
-
-fn slot_at(bytes: &[u8], files: Files, call: &[u8]) -> bool {
-    let objects = file(bytes, files, OBJECTS);
-    let slots = file(bytes, files, SLOTS);
-    let payload = file(bytes, files, PAYLOAD);
-    let object = words::u64_at(call, 0) as usize;
-    let index = words::u64_at(call, 8);
-    match serializer::slot_at(objects, slots, payload, object, index) {
-        SlotAnswer::At(value) => is_slot(behind(call, 16), value),
-        SlotAnswer::Nothing => said::is_nothing(behind(call, 16)),
-        SlotAnswer::Refused(refusal) => said::is_refused(behind(call, 16), refusal),
-    }
-}
-
-// Kind, number or offset, length, repeat count, inner kind.
-fn is_slot(said: &[u8], value: SlotValue) -> bool {
-    match value {
-        SlotValue::Other => said::is_numbers_5(said, 0, 0, 0, 0, 0),
-        SlotValue::Object(n) => said::is_numbers_5(said, 1, n as u64, 0, 0, 0),
-        SlotValue::Root => said::is_numbers_5(said, 2, 0, 0, 0, 0),
-        SlotValue::OtherRef => said::is_numbers_5(said, 3, 0, 0, 0, 0),
-        SlotValue::Raw(run) => said::is_numbers_5(said, 4, run.off as u64, run.len as u64, 0, 0),
-        SlotValue::Repeat(repeat) => is_repeat(said, repeat),
-    }
-}
-
-fn is_repeat(said: &[u8], repeat: Repeat) -> bool {
-    let count = repeat.count as u64;
-    let inner = repeat.inner;
-    match inner {
-        Inner::Other => said::is_numbers_5(said, 5, 0, 0, count, 0),
-        Inner::Object(n) => said::is_numbers_5(said, 5, n as u64, 0, count, 1),
-        Inner::Root => said::is_numbers_5(said, 5, 0, 0, count, 2),
-        Inner::OtherRef => said::is_numbers_5(said, 5, 0, 0, count, 3),
-        Inner::Raw(run) => said::is_numbers_5(said, 5, run.off as u64, run.len as u64, count, 4),
     }
 }
 

@@ -1,16 +1,16 @@
 // Calls on lent code: one instruction decoded, and its registers, operands and whole text.
-use crate::items::Files;
-use crate::items::Part;
-use crate::items::behind;
-use crate::items::file;
-use crate::items::lent;
-use crate::said;
 use decoder::Decoded;
 use decoder::Instr;
 use decoder::Outcome;
 use operand::Operand;
 use refusal::Check;
 use tables::Frame;
+use vectors::items::Files;
+use vectors::items::Part;
+use vectors::items::behind;
+use vectors::items::file;
+use vectors::items::lent;
+use vectors::said;
 
 // Record files by their numbers, and the code.
 const OPCODES: u8 = 0;
@@ -311,12 +311,12 @@ fn is_instr(said: &[u8], instr: Instr) -> bool {
         return false;
     }
     let n = instr.count as u8;
-    if !said::is_instr_head(said, instr.opcode, instr.scale, instr.end as u64, n) {
+    if !is_head(said, instr.opcode, instr.scale, instr.end as u64, n) {
         return false;
     }
     let mut k: u8 = 0;
     while k < n {
-        if !is_operand(said, 33 + 24 * k, operand_of(instr, k as usize)) {
+        if !is_operand(said, 33 + 24 * k as usize, operand_of(instr, k as usize)) {
             return false;
         }
         k += 1;
@@ -324,7 +324,18 @@ fn is_instr(said: &[u8], instr: Instr) -> bool {
     true
 }
 
-fn is_operand(said: &[u8], at: u8, op: Operand) -> bool {
+// Status 1 and the first four numbers of an instruction, and as many more as n operands have.
+fn is_head(said: &[u8], opcode: u8, scale: u8, end: u64, n: u8) -> bool {
+    if !said::has_form(said, 1, 33 + 24 * n as usize) {
+        return false;
+    }
+    if !said::are_2(said, 1, opcode as u64, scale as u64) {
+        return false;
+    }
+    said::are_2(said, 17, end, n as u64)
+}
+
+fn is_operand(said: &[u8], at: usize, op: Operand) -> bool {
     match op {
         Operand::Nothing => false,
         Operand::Reg(i) => said::are_3(said, at, 0, bits(i), 0),

@@ -1,11 +1,11 @@
 // The walk check of some prefixes with each last byte, against runs of equal answers.
-use crate::items::Files;
-use crate::items::Part;
-use crate::items::behind;
-use crate::items::file;
-use crate::items::lent;
-use crate::said;
+use crate::answers;
 use crate::walks;
+use vectors::items::Files;
+use vectors::items::Part;
+use vectors::items::behind;
+use vectors::items::file;
+use vectors::items::lent;
 
 // The answer said now, how often it is said again, and where the next run is.
 struct Run {
@@ -148,5 +148,5 @@ fn is_walked_in(
     }
     let marks = walks::first(buffer, n);
     let walked = walks::walk_code(bytes, files, object, behind(code, code.len() - n), marks);
-    said::is_walked(said, walked, marks, n)
+    answers::is_walked(said, walked, marks, n)
 }

@@ -1,26 +1,36 @@
 // Replays the recorded walks: each is asked of our own walk check, and answers and marks are compared.
-mod counts;
+mod answers;
 mod each;
-mod items;
-mod said;
 mod shown;
 mod walks;
 
-use counts::Counts;
-use counts::ask_file;
-use libc::STDERR_FILENO;
-use libc::STDOUT_FILENO;
-
-// Calls asked, walks in them, and how many calls differed.
-struct Total {
-    calls: u64,
-    walks: u64,
-    differences: u64,
-}
+use vectors::counts::Counts;
+use vectors::counts::Outcome;
+use vectors::counts::counted;
+use vectors::counts::judged;
+use vectors::counts::no_counts;
+use vectors::counts::numbered;
+use vectors::counts::with_codes;
+use vectors::counts::with_unknown;
+use vectors::items::Files;
+use vectors::items::Item;
+use vectors::items::Part;
+use vectors::items::What;
+use vectors::items::files_after;
+use vectors::items::item_at;
+use vectors::items::kind_of;
+use vectors::items::lent;
+use vectors::items::no_files;
+use vectors::lines::Total;
+use vectors::lines::both;
+use vectors::lines::print_counts;
+use vectors::lines::print_total;
+use vectors::lines::print_wrong;
+use vectors::lines::read;
 
 fn main() {
-    let total = both(walks_1(), both(walks_2(), walks_3()));
-    print_total(total.calls, total.walks, total.differences);
+    print_total(both(walks_1(), both(walks_2(), walks_3())));
+    print_wrong(rewalk(b"wrong.vec", false));
 }
 
 // The files, a few at a time.
@@ -43,26 +53,6 @@ fn walks_3() -> Total {
     both(v8, few)
 }
 
-fn print_total(calls: u64, walks: u64, differences: u64) {
-    io::write_all(STDOUT_FILENO, b"total ");
-    io::print_decimal(STDOUT_FILENO, walks);
-    io::write_all(STDOUT_FILENO, b" walks in");
-    print_numbers(calls, differences);
-    io::write_all(STDOUT_FILENO, b"\n");
-}
-
-fn both(a: Total, b: Total) -> Total {
-    Total {
-        calls: plus(a.calls, b.calls),
-        walks: plus(a.walks, b.walks),
-        differences: plus(a.differences, b.differences),
-    }
-}
-
-fn plus(a: u64, b: u64) -> u64 {
-    std::num::wrapping_add_u64(a, b)
-}
-
 // A file, in a buffer that is longer than any of them; its named walks are printed, or not.
 fn rewalk(name: &[u8], shows: bool) -> Total {
     let mut buffer = [0u8; 1048576];
@@ -74,72 +64,62 @@ fn rewalk_in(name: &[u8], shows: bool, buffer: &mut [u8; 1048576]) -> Total {
 }
 
 fn rewalk_with(name: &[u8], shows: bool, buffer: &mut [u8]) -> Total {
-    let fd = os::open_read(name);
-    if fd < 0 {
-        os::fail(name);
-        return nothing();
-    }
-    let n = io::read_full(fd, buffer);
-    libc::close(fd);
-    if n == buffer.len() {
-        io::write_all(STDERR_FILENO, name);
-        io::write_all(STDERR_FILENO, b": too long\n");
-        return nothing();
-    }
-    io::write_all(STDOUT_FILENO, name);
-    io::write_all(STDOUT_FILENO, b"\n");
-    print_counts(ask_file(&buffer[..n], shows))
+    let len = read(name, buffer);
+    let whole = Part { at: 0, len };
+    print_counts(name, ask_file(lent(buffer, whole), shows))
 }
 
-fn nothing() -> Total {
-    Total {
-        calls: 0,
-        walks: 0,
-        differences: 0,
+// The calls of a file; those with a name are printed, or not.
+fn ask_file(bytes: &[u8], shows: bool) -> Counts {
+    let mut counts = no_counts();
+    let mut files = no_files();
+    let mut at = 0;
+    while at < bytes.len() {
+        let item = item_at(bytes, at);
+        files = files_after(bytes, files, item);
+        counts = counts_after(bytes, files, counts, item, shows);
+        at = item.next;
     }
+    counts
 }
 
-fn print_counts(c: Counts) -> Total {
-    print_row(b"walk", c.calls[0], c.differences[0], c.first[0]);
-    print_row(b"walk_code", c.calls[1], c.differences[1], c.first[1]);
-    print_row(b"walk_last_bytes", c.calls[2], c.differences[2], c.first[2]);
-    print_row(b"unknown", c.calls[3], c.differences[3], c.first[3]);
-    print_codes(c.codes);
-    let one = plus(c.calls[0], c.calls[1]);
-    let wrong = plus(c.differences[0], c.differences[1]);
-    Total {
-        calls: c.number,
-        walks: plus(one, c.codes),
-        differences: plus(wrong, plus(c.differences[2], c.differences[3])),
+fn counts_after(bytes: &[u8], files: Files, counts: Counts, item: Item, shows: bool) -> Counts {
+    let body = item.body;
+    match kind_of(item) {
+        What::Sets => counts,
+        What::Call(f) => counts_call(bytes, files, numbered(counts), f, lent(bytes, body), shows),
+        What::Unknown => with_unknown(counts),
     }
 }
 
-fn print_codes(codes: u64) {
-    if codes != 0 {
-        io::write_all(STDOUT_FILENO, b"codes of walk_last_bytes: ");
-        io::print_decimal(STDOUT_FILENO, codes);
-        io::write_all(STDOUT_FILENO, b"\n");
+// The walks of object 0 are asked of the call for C too.
+fn counts_call(
+    bytes: &[u8],
+    files: Files,
+    counts: Counts,
+    f: u8,
+    call: &[u8],
+    shows: bool,
+) -> Counts {
+    let number = if shows { counts.number } else { 0 };
+    match f {
+        19 => {
+            let after = counted(
+                counts,
+                f,
+                judged(walks::of_object(bytes, files, call, number)),
+            );
+            counted(after, 28, judged(walks::for_c(bytes, files, call)))
+        }
+        20 => counted(
+            counts,
+            f,
+            judged(walks::of_code(bytes, files, call, number)),
+        ),
+        21 => {
+            let after = counted(counts, f, judged(each::last_bytes(bytes, files, call)));
+            with_codes(after, words::u32_at(call, 8) as u64 * 256)
+        }
+        _ => counted(counts, f, Outcome::Differs),
     }
-}
-
-// Name, calls, differences, and the number of the first call that differs; no line where there was no call.
-fn print_row(name: &[u8], calls: u64, differences: u64, first: u64) {
-    if calls == 0 {
-        return;
-    }
-    io::write_all(STDOUT_FILENO, name);
-    print_numbers(calls, differences);
-    if differences != 0 {
-        io::write_all(STDOUT_FILENO, b", the first is call ");
-        io::print_decimal(STDOUT_FILENO, first);
-    }
-    io::write_all(STDOUT_FILENO, b"\n");
-}
-
-fn print_numbers(calls: u64, differences: u64) {
-    io::write_all(STDOUT_FILENO, b" ");
-    io::print_decimal(STDOUT_FILENO, calls);
-    io::write_all(STDOUT_FILENO, b" calls, ");
-    io::print_decimal(STDOUT_FILENO, differences);
-    io::write_all(STDOUT_FILENO, b" differences");
 }

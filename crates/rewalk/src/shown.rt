@@ -1,7 +1,7 @@
 // Prints what the walk check says of the calls of walk-1.vec that have a name.
-use crate::items::Part;
-use crate::items::lent;
 use libc::STDOUT_FILENO;
+use vectors::items::Part;
+use vectors::items::lent;
 use walk::Walked;
 
 // A call with a name: the name, the code if it is lent, and the answer. Number 0 is a call of another file.

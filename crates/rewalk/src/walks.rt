@@ -1,11 +1,12 @@
 // The walk check of object 0 and of lent code.
-use crate::items::Files;
-use crate::items::behind;
-use crate::items::file;
-use crate::said;
+use crate::answers;
 use crate::shown;
 use header::HeaderAt;
 use jumps::Owner;
+use refusal::Refusal;
+use vectors::items::Files;
+use vectors::items::behind;
+use vectors::items::file;
 use walk::Walked;
 
 // In place of an object's number: no store and no pool.
@@ -25,7 +26,7 @@ fn of_object_in(bytes: &[u8], files: Files, call: &[u8], number: u64, buffer: &m
     let marks = first(buffer, n);
     let walked = walk_object(bytes, files, marks);
     shown::show(number, file(bytes, files, 8), walked);
-    said::is_walked(behind(call, 8), walked, marks, code_len(bytes, files))
+    answers::is_walked(behind(call, 8), walked, marks, code_len(bytes, files))
 }
 
 fn walk_object(bytes: &[u8], files: Files, marks: &mut [u8]) -> Walked {
@@ -53,15 +54,73 @@ pub fn first<'a>(marks: &'a mut [u8], n: usize) -> &'a mut [u8] {
 
 // The length of object 0's code, 0 where it is refused.
 fn code_len(bytes: &[u8], files: Files) -> usize {
-    let header = header::header_of(
+    let header = header::header_at(
+        file(bytes, files, 5),
         file(bytes, files, 6),
         file(bytes, files, 7),
-        store::object_of(file(bytes, files, 5), 0),
-        tables::layout_of(file(bytes, files, 4)),
+        file(bytes, files, 4),
+        0,
     );
     match header {
         HeaderAt::At(h) => h.code_len,
         HeaderAt::Refused(_) => 0,
+    }
+}
+
+// 19, asked of the call for C.
+pub fn for_c(bytes: &[u8], files: Files, call: &[u8]) -> bool {
+    let mut buffer = [7u8; 65540];
+    for_c_in(bytes, files, call, &mut buffer)
+}
+
+fn for_c_in(bytes: &[u8], files: Files, call: &[u8], buffer: &mut [u8]) -> bool {
+    let n = words::u64_at(call, 0) as usize;
+    if buffer.len() < n {
+        return false;
+    }
+    let marks = first(buffer, n);
+    let mut steps: usize = 7;
+    let mut place: usize = 7;
+    let status = capi::jscd_walk(
+        marks,
+        file(bytes, files, 0),
+        file(bytes, files, 1),
+        file(bytes, files, 2),
+        file(bytes, files, 3),
+        file(bytes, files, 4),
+        file(bytes, files, 5),
+        file(bytes, files, 6),
+        file(bytes, files, 7),
+        0,
+        &mut steps,
+        &mut place,
+    );
+    is_told(status, steps, place)
+        && answers::is_walked(
+            behind(call, 8),
+            told(status, steps, place),
+            marks,
+            code_len(bytes, files),
+        )
+}
+
+// Steps are 0 unless a walk leaves, and the place too where all are closed.
+fn is_told(status: u8, steps: usize, place: usize) -> bool {
+    match status {
+        0 => steps == 0 && place == 0,
+        254 => true,
+        _ => steps == 0,
+    }
+}
+
+fn told(status: u8, steps: usize, place: usize) -> Walked {
+    match status {
+        0 => Walked::Closed,
+        254 => Walked::Leaves(steps, place),
+        _ => Walked::Refused(Refusal {
+            number: status,
+            place,
+        }),
     }
 }
 
@@ -80,7 +139,7 @@ fn of_code_in(bytes: &[u8], files: Files, call: &[u8], number: u64, buffer: &mut
     let code = file(bytes, files, 8);
     let walked = walk_code(bytes, files, words::u64_at(call, 0), code, marks);
     shown::show(number, code, walked);
-    said::is_walked(behind(call, 16), walked, marks, code.len())
+    answers::is_walked(behind(call, 16), walked, marks, code.len())
 }
 
 pub fn walk_code(bytes: &[u8], files: Files, object: u64, code: &[u8], marks: &mut [u8]) -> Walked {

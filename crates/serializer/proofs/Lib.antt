@@ -6,3 +6,4 @@ pub mod Point
 pub mod Searched
 pub mod Checked
 pub mod Inside
+pub mod Passed

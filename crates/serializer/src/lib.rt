@@ -68,6 +68,12 @@ pub enum RawAnswer {
     Refused(Refusal),
 }
 
+// The answer of raw_at, and the part of the payload that it tells of.
+pub struct RawPart<'a> {
+    pub answer: RawAnswer,
+    pub part: &'a [u8],
+}
+
 pub enum LenAnswer {
     Len(u64),
     Refused(Refusal),
@@ -103,8 +109,42 @@ pub fn slot_at(
     }
 }
 
-// The part of the payload that holds the len bytes from byte off of the object on; empty where there is none.
+// Where in the payload the len bytes from byte off of the object on are, nothing or a refusal, and the part of the payload that holds
+// them; it is empty where none does. A caller in whose body a `RawPart` stands is proved by hand: `raw_run_at` answers the one
+// half, `raw_part_at` the other.
 pub fn raw_at<'a>(
+    objects: &[u8],
+    slots: &[u8],
+    payload: &'a [u8],
+    ts: u8,
+    object: usize,
+    off: u64,
+    len: u64,
+) -> RawPart<'a>
+    ensures { λ r. ⌜ (r .answer ≡ rawCall (now (objects .entry)) (now (slots .entry)) (now (payload .entry)) ts object off len) × (now (r .part) ≡ rawPart (now (payload .entry)) (rawCall (now (objects .entry)) (now (slots .entry)) (now (payload .entry)) ts object off len) len) ⌝ }
+{
+    let answer = raw_found(objects, slots, payload, ts, object, off, len);
+    let part = raw_lent(payload, answer, len);
+    RawPart { answer, part }
+}
+
+// The answer of raw_at.
+pub fn raw_run_at(
+    objects: &[u8],
+    slots: &[u8],
+    payload: &[u8],
+    ts: u8,
+    object: usize,
+    off: u64,
+    len: u64,
+) -> RawAnswer
+    ensures { λ r. ⌜ r ≡ rawCall (now (objects .entry)) (now (slots .entry)) (now (payload .entry)) ts object off len ⌝ }
+{
+    raw_at(objects, slots, payload, ts, object, off, len).answer
+}
+
+// The part that raw_at lends.
+pub fn raw_part_at<'a>(
     objects: &[u8],
     slots: &[u8],
     payload: &'a [u8],
@@ -115,14 +155,10 @@ pub fn raw_at<'a>(
 ) -> &'a [u8]
     ensures { λ r. ⌜ now r ≡ rawPart (now (payload .entry)) (rawCall (now (objects .entry)) (now (slots .entry)) (now (payload .entry)) ts object off len) len ⌝ }
 {
-    let RawAnswer::At(at) = raw_run_at(objects, slots, payload, ts, object, off, len) else {
-        return lent(payload, 0, 0);
-    };
-    lent(payload, at, len as usize)
+    raw_at(objects, slots, payload, ts, object, off, len).part
 }
 
-// Where in the payload the part that raw_at lends starts.
-pub fn raw_run_at(
+fn raw_found(
     objects: &[u8],
     slots: &[u8],
     payload: &[u8],
@@ -140,6 +176,15 @@ pub fn raw_run_at(
         }
         Check::Refused(refusal) => RawAnswer::Refused(refusal),
     }
+}
+
+fn raw_lent<'a>(payload: &'a [u8], answer: RawAnswer, len: u64) -> &'a [u8]
+    ensures { λ r. ⌜ now r ≡ rawPart (now (payload .entry)) answer len ⌝ }
+{
+    let RawAnswer::At(at) = answer else {
+        return lent(payload, 0, 0);
+    };
+    lent(payload, at, len as usize)
 }
 
 pub fn array_len(objects: &[u8], slots: &[u8], payload: &[u8], ts: u8, object: usize) -> LenAnswer

@@ -1,2 +1,4 @@
 pub mod Cases
 pub mod Laws
+pub mod V8
+pub mod V8Cases

@@ -1,1 +1,3 @@
 pub mod Targets
+pub mod V8
+pub mod Form

@@ -113,6 +113,15 @@ targetBy Branches at d = targetFrom at d
 targetBy JumpsBack at d = targetBack at d
 targetBy Switch at d = target.Nothing
 
+-- the kinds of the Rust's list
+abbrev pub isJump : Kind → Bool
+isJump On = false
+isJump Ends = false
+isJump Jumps = true
+isJump Branches = true
+isJump JumpsBack = true
+isJump Switch = false
+
 unfoldable pub jumpTarget : (ℕ → Elem) → Flow → Instr → Target
 jumpTarget el flow i = targetBy (flow .kind) (here i) (distanceBy el (flow .pool) (operandOf i (flow .first)))
 

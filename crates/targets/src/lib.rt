@@ -6,7 +6,8 @@ use operand::Operand;
 use serializer::Elem;
 ghost use mathlib.Core.Path.{_≡_};
 ghost use Prim.Native.Nat.{_+_};
-ghost use Rattle.targets.specs.Targets.{poolSearched, found, operandOf, here, indexOf, numberOf, distanceBy, targetFrom, targetBack, jumpTarget, isSwitch, baseOf, sizedBy, tableBy, jumpTable, entryAt};
+ghost use Rattle.targets.specs.declared.Number.the-variants as number;
+ghost use Rattle.targets.specs.Targets.{poolSearched, found, operandOf, here, indexOf, numberOf, targetBy, jumpTarget, isJump, isSwitch, baseOf, sizedBy, tableBy, jumpTable, entryAt};
 
 // The slots of the constant pool.
 pub struct PoolSlots {
@@ -65,7 +66,7 @@ pub fn pool_elem(slots: &[u8], payload: &[u8], ts: u8, pool: Pool, n: u64) -> El
     }
 }
 
-// The target of a jump.
+// The target of a jump. Each step is taken apart or answers no target.
 pub fn jump_target(
     slots: &[u8],
     payload: &[u8],
@@ -77,23 +78,26 @@ pub fn jump_target(
     ensures { λ r. ⌜ r ≡ jumpTarget (poolSearched (now (slots .entry)) (now (payload .entry)) ts pool) flow instr ⌝ }
 {
     let kind = flow.kind;
-    match kind {
-        Kind::On => Target::Nothing,
-        Kind::Ends => Target::Nothing,
-        Kind::Switch => Target::Nothing,
-        Kind::Jumps => target_from(
-            here(instr),
-            jump_distance(slots, payload, ts, pool, flow, instr),
-        ),
-        Kind::Branches => target_from(
-            here(instr),
-            jump_distance(slots, payload, ts, pool, flow, instr),
-        ),
-        Kind::JumpsBack => target_back(
-            here(instr),
-            jump_distance(slots, payload, ts, pool, flow, instr),
-        ),
+    if !is_jump(kind) {
+        return Target::Nothing;
     }
+    let op = operand_of(instr, flow.first);
+    if !flow.pool {
+        let Number::Is(d) = number_of(op) else {
+            return Target::Nothing;
+        };
+        return target_by(kind, here(instr), d);
+    }
+    let Operand::Idx(v) = op else {
+        return Target::Nothing;
+    };
+    let Pool::At(p) = pool else {
+        return Target::Nothing;
+    };
+    let Elem::Smi(d) = serializer::elem_at(slots, payload, p.first, p.count, ts, v as u64) else {
+        return Target::Nothing;
+    };
+    target_by(kind, here(instr), d)
 }
 
 // The table of a switch.
@@ -195,62 +199,31 @@ fn number_of(op: Operand) -> Number
     }
 }
 
-// The distance of a jump, by the first operand that it uses.
-fn jump_distance(
-    slots: &[u8],
-    payload: &[u8],
-    ts: u8,
-    pool: Pool,
-    flow: Flow,
-    instr: Instr,
-) -> Number
-    ensures { λ r. ⌜ r ≡ distanceBy (poolSearched (now (slots .entry)) (now (payload .entry)) ts pool) (flow .pool) (operandOf instr (flow .first)) ⌝ }
+// Whether a kind of instruction has a target.
+fn is_jump(kind: Kind) -> bool
+    ensures { λ r. ⌜ r ≡ isJump kind ⌝ }
 {
-    let op = operand_of(instr, flow.first);
-    distance_of(slots, payload, ts, pool, flow.pool, op)
-}
-
-// The distance: the operand, or the pool element that the operand names.
-fn distance_of(
-    slots: &[u8],
-    payload: &[u8],
-    ts: u8,
-    pool: Pool,
-    from_pool: bool,
-    op: Operand,
-) -> Number
-    ensures { λ r. ⌜ r ≡ distanceBy (poolSearched (now (slots .entry)) (now (payload .entry)) ts pool) «from_pool» op ⌝ }
-{
-    if !from_pool {
-        return number_of(op);
-    }
-    let Operand::Idx(v) = op else {
-        return Number::Nothing;
-    };
-    let Pool::At(p) = pool else {
-        return Number::Nothing;
-    };
-    let Elem::Smi(n) = serializer::elem_at(slots, payload, p.first, p.count, ts, v as u64) else {
-        return Number::Nothing;
-    };
-    Number::Is(n)
-}
-
-fn target_from(at: u64, d: Number) -> Target
-    ensures { λ r. ⌜ r ≡ targetFrom at d ⌝ }
-{
-    match d {
-        Number::Is(n) => Target::At(words::target_after(at, n)),
-        Number::Nothing => Target::Nothing,
+    match kind {
+        Kind::On => false,
+        Kind::Ends => false,
+        Kind::Switch => false,
+        Kind::Jumps => true,
+        Kind::Branches => true,
+        Kind::JumpsBack => true,
     }
 }
 
-fn target_back(at: u64, d: Number) -> Target
-    ensures { λ r. ⌜ r ≡ targetBack at d ⌝ }
+// The target at distance d from place at.
+fn target_by(kind: Kind, at: u64, d: i64) -> Target
+    ensures { λ r. ⌜ r ≡ targetBy kind at (number.Is d) ⌝ }
 {
-    match d {
-        Number::Is(n) => Target::At(words::target_before(at, n)),
-        Number::Nothing => Target::Nothing,
+    match kind {
+        Kind::On => Target::Nothing,
+        Kind::Ends => Target::Nothing,
+        Kind::Switch => Target::Nothing,
+        Kind::Jumps => Target::At(words::target_after(at, d)),
+        Kind::Branches => Target::At(words::target_after(at, d)),
+        Kind::JumpsBack => Target::At(words::target_before(at, d)),
     }
 }
 

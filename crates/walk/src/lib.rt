@@ -169,7 +169,7 @@ fn walk_source(
     walk_sized(marks, code, opcodes, types, slots, payload, &flows, setup)
 }
 
-// Room by the code's length: most code is short, and the room is cleared in each call.
+// Room by the code's length: most code is short, and the room is cleared in each call. A byte a start, and two an offset that is queued.
 fn walk_sized(
     marks: &mut [u8],
     code: &[u8],
@@ -203,7 +203,7 @@ fn walk_short(
     ensures { λ r. ⌜ WalkedAs (walkSource (sourceOf (now (code .entry)) (now (opcodes .entry)) (now (types .entry)) (now (slots .entry)) (now (payload .entry)) setup) (now (marks .entry))) r (now (marks .exit)) ⌝ }
 {
     let mut starts = [0u8; 2048];
-    let mut queue = [0u32; 2048];
+    let mut queue = [0u16; 2048];
     walk_in(
         marks,
         code,
@@ -232,7 +232,7 @@ fn walk_long(
     ensures { λ r. ⌜ WalkedAs (walkSource (sourceOf (now (code .entry)) (now (opcodes .entry)) (now (types .entry)) (now (slots .entry)) (now (payload .entry)) setup) (now (marks .entry))) r (now (marks .exit)) ⌝ }
 {
     let mut starts = [0u8; 65536];
-    let mut queue = [0u32; 65536];
+    let mut queue = [0u16; 65536];
     walk_in(
         marks,
         code,
@@ -258,7 +258,7 @@ fn walk_in(
     flows: &[u8],
     setup: Setup,
     starts: &mut [u8],
-    queue: &mut [u32],
+    queue: &mut [u16],
 ) -> Walked
     requires { ⌜ (length (now code) ≤ 65536) × (length (now code) ≤ length (now starts)) × (length (now code) ≤ length (now queue)) × Tabled (now opcodes) (now flows) setup ⌝ }
     ensures { λ r. ⌜ WalkedAs (walkSource (sourceOf (now (code .entry)) (now (opcodes .entry)) (now (types .entry)) (now (slots .entry)) (now (payload .entry)) setup) (now (marks .entry))) r (now (marks .exit)) ⌝ }
@@ -276,7 +276,8 @@ fn walk_in(
                     place: 0,
                 });
             }
-            if marks.len() < n {
+            let room = marks.len();
+            if room < n {
                 return Walked::Refused(Refusal {
                     number: 18,
                     place: 0,
@@ -309,7 +310,7 @@ fn search(
     setup: Setup,
     starts: &[u8],
     marks: &mut [u8],
-    queue: &mut [u32],
+    queue: &mut [u16],
 ) -> Walked
     requires { ⌜ (length (now marks) ≡ length (now code)) × (0 < length (now code)) × (length (now code) ≤ 65536) × (length (now code) ≤ length (now queue)) × Tabled (now opcodes) (now flows) setup × (listed (now code) (now opcodes) (now types) (setup .rfs) .outcome ≡ OutcomeIs.End) × StartsAre ((graphOf (now code) (now opcodes) (now types) (now slots) (now payload) setup) .starts) (now starts) ⌝ }
     ensures { λ r. ⌜ WalkedAs (walkFound (sourceOf (now (code .entry)) (now (opcodes .entry)) (now (types .entry)) (now (slots .entry)) (now (payload .entry)) setup) []) r (now (marks .exit)) ⌝ }
@@ -421,7 +422,7 @@ fn exits(
     }
 }
 
-fn wide32(x: u32) -> usize
+fn wide16(x: u16) -> usize
     ensures { λ r. ⌜ r ≡ x ⌝ }
 {
     x as usize
@@ -437,7 +438,7 @@ fn lowest(
     flows: &[u8],
     setup: Setup,
     starts: &[u8],
-    queue: &[u32],
+    queue: &[u16],
     lo: usize,
     hi: usize,
 ) -> Found
@@ -447,7 +448,7 @@ fn lowest(
     let mut i = lo;
     let mut f = Found::Nothing;
     while i < hi {
-        let o = wide32(queue[i]);
+        let o = wide16(queue[i]);
         i += 1;
         if exits(
             code,
@@ -481,13 +482,13 @@ fn lower(f: Found, o: usize) -> Found
 }
 
 // Marks t and puts it behind the queue's entries, unless it is marked.
-fn push(marks: &mut [u8], queue: &mut [u32], tail: usize, t: usize) -> usize
+fn push(marks: &mut [u8], queue: &mut [u16], tail: usize, t: usize) -> usize
     requires { ⌜ Held (now marks) (now queue) tail × (t < length (now marks)) ⌝ }
     ensures { λ r. ⌜ Grown (now (queue .entry)) tail (now (marks .exit)) (now (queue .exit)) r (λ p. p ≡ t) ⌝ }
 {
     if marks[t] == 0 {
         marks[t] = 1;
-        queue[tail] = t as u32;
+        queue[tail] = t as u16;
         return tail + 1;
     }
     tail
@@ -504,7 +505,7 @@ fn push_steps(
     setup: Setup,
     o: usize,
     marks: &mut [u8],
-    queue: &mut [u32],
+    queue: &mut [u16],
     tail: usize,
 ) -> usize
     requires { ⌜ Held (now marks) (now queue) tail × (length (now marks) ≡ length (now code)) × (exits (graphOf (now code) (now opcodes) (now types) (now slots) (now payload) setup) o ≡ false) × Ready (now opcodes) (now flows) setup (graphOf (now code) (now opcodes) (now types) (now slots) (now payload) setup) (length (now code)) ⌝ }
@@ -537,7 +538,7 @@ fn push_level(
     flows: &[u8],
     setup: Setup,
     marks: &mut [u8],
-    queue: &mut [u32],
+    queue: &mut [u16],
     lo: usize,
     hi: usize,
 ) -> usize
@@ -547,7 +548,7 @@ fn push_level(
     let mut end = hi;
     let mut i = lo;
     while i < hi {
-        let o = wide32(queue[i]);
+        let o = wide16(queue[i]);
         end = push_steps(
             code,
             opcodes,
@@ -577,7 +578,7 @@ fn levels(
     setup: Setup,
     starts: &[u8],
     marks: &mut [u8],
-    queue: &mut [u32],
+    queue: &mut [u16],
 ) -> Walked
     requires { ⌜ Held (now marks) (now queue) 0 × (length (now marks) ≡ length (now code)) × (0 < length (now code)) × Ready (now opcodes) (now flows) setup (graphOf (now code) (now opcodes) (now types) (now slots) (now payload) setup) (length (now code)) × StartsAre ((graphOf (now code) (now opcodes) (now types) (now slots) (now payload) setup) .starts) (now starts) ⌝ }
     ensures { λ r. ⌜ Answered (graphOf (now (code .entry)) (now (opcodes .entry)) (now (types .entry)) (now (slots .entry)) (now (payload .entry)) setup) (length (now (code .entry))) (now (marks .exit)) r ⌝ }

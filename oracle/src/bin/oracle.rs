@@ -7,8 +7,9 @@ use oracle::port::{Port, STORE, TABLE};
 use oracle::records::Files;
 use oracle::vectors::{self, Writer};
 use oracle::{cases, code_recording, instructions, recording, sample, v8};
-use oracle::{jump_recording, list_recording, named, v8_lists};
-use oracle::{walk_classes, walk_recording, walk_short, walk_v8};
+use oracle::{entry_recording, header_recording, jump_recording, list_recording, named};
+use oracle::{programs, slot_recording, v8_lists};
+use oracle::{walk_classes, walk_recording, walk_short, walk_v8, wrong};
 use std::path::Path;
 use std::process::ExitCode;
 
@@ -23,6 +24,11 @@ const USAGE: &str = "usage:
   oracle record-code SEED OUT         write vectors of instructions, and count their classes
   oracle record-list SEED OUT         write vectors of whole listings, and count their classes
   oracle record-jump SEED OUT         the same for targets, entries, numbers in slots, max_register
+  oracle record-header SEED OUT       the same for headers
+  oracle record-layout OUT            the same for the sample's header by good and bad layouts
+  oracle record-slots SEED OUT        the same for all slot records of a store
+  oracle record-entry SEED OUT        the same for single entries of switches
+  oracle record-wrong FOLDER PROGRAM OUT   write calls of FOLDER's recordings that PROGRAM asks, one thing changed in each answer
   oracle record-v8 FOLDER OUT         write vectors of what V8 printed (v8-listings), and count them
   oracle record-v8-list FOLDER OUT    write vectors of V8's whole listings, and count them
   oracle record-named OUT             write vectors of some named listings, and print them
@@ -30,6 +36,7 @@ const USAGE: &str = "usage:
   oracle record-walk SEED OUT..       write vectors of the walk (five files), and count their classes
   oracle record-walk-short OUT [few]  write vectors of the walk over all short codes, or over few of them
   oracle record-walk-v8 FOLDER OUT    write vectors of the walk over V8's functions (v8-listings)
+  oracle record-programs CRATES       write data, args and stdout of jscd_list, jscd_walk, file_cases
   oracle walk DIR [MARKS]             the walk over object 0's code with a mark buffer of so many bytes (65536)";
 
 fn main() -> ExitCode {
@@ -50,6 +57,11 @@ fn main() -> ExitCode {
         ["record-code", seed, out] => record_code(seed, out),
         ["record-list", seed, out] => record_list(seed, out),
         ["record-jump", seed, out] => record_jump(seed, out),
+        ["record-header", seed, out] => record_header(seed, out),
+        ["record-layout", out] => record_layout(out),
+        ["record-slots", seed, out] => record_slots(seed, out),
+        ["record-entry", seed, out] => record_entry(seed, out),
+        ["record-wrong", folder, program, out] => record_wrong(Path::new(folder), program, out),
         ["record-named", out] => record_named(out),
         ["record-v8-list", folder, out] => record_v8_list(Path::new(folder), out),
         ["record-v8", folder, out] => record_v8(Path::new(folder), out),
@@ -58,6 +70,7 @@ fn main() -> ExitCode {
         ["record-walk-v8", folder, out] => record_walk_v8(Path::new(folder), out),
         ["record-walk-short", out] => record_walk_short(out, false),
         ["record-walk-short", out, "few"] => record_walk_short(out, true),
+        ["record-programs", crates] => record_programs(Path::new(crates)),
         ["walk", folder] => walk(Path::new(folder), "65536"),
         ["walk", folder, marks] => walk(Path::new(folder), marks),
         _ => Err(USAGE.into()),
@@ -161,6 +174,36 @@ fn record_jump(seed: &str, out: &str) -> Result<bool, String> {
     classified(out, &recording.writer, &recording.classes, &jump_recording::wanted())
 }
 
+fn record_header(seed: &str, out: &str) -> Result<bool, String> {
+    let recording = header_recording::record(word(seed)?)?;
+    classified(out, &recording.writer, &recording.classes, &header_recording::wanted())
+}
+
+fn record_layout(out: &str) -> Result<bool, String> {
+    let recording = header_recording::record_layouts()?;
+    classified(out, &recording.writer, &recording.classes, &[])
+}
+
+fn record_slots(seed: &str, out: &str) -> Result<bool, String> {
+    let recording = slot_recording::record(word(seed)?)?;
+    classified(out, &recording.writer, &recording.classes, &slot_recording::wanted())
+}
+
+fn record_entry(seed: &str, out: &str) -> Result<bool, String> {
+    let recording = entry_recording::record(word(seed)?)?;
+    classified(out, &recording.writer, &recording.classes, &entry_recording::wanted())
+}
+
+fn record_wrong(folder: &Path, program: &str, out: &str) -> Result<bool, String> {
+    let named = wrong::PROGRAMS.iter().find(|p| p.name == program);
+    let recording = wrong::record(named.ok_or(format!("no program {program}"))?, folder)?;
+    let vectors = &recording.writer;
+    std::fs::write(out, &vectors.out).map_err(|e| format!("{out}: {e}"))?;
+    print!("{}", recording.report());
+    println!("{} calls, {} bytes", vectors.calls, vectors.out.len());
+    Ok(true)
+}
+
 /// Writes vectors and prints their classes; false where a wanted class has no case.
 fn classified(
     out: &str,
@@ -206,6 +249,11 @@ fn record_named(out: &str) -> Result<bool, String> {
 fn replay(file: &str) -> Result<bool, String> {
     let vectors = std::fs::read(file).map_err(|e| format!("{file}: {e}"))?;
     println!("{} calls, all the same", vectors::replay(&vectors)?);
+    Ok(true)
+}
+
+fn record_programs(crates: &Path) -> Result<bool, String> {
+    println!("{} files", programs::write(crates)?);
     Ok(true)
 }
 

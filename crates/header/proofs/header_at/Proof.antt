@@ -7,8 +7,8 @@ use borrow.Author.Needs.{needs}
 use Rattle.header.proofs.header_at.Statement.{statement}
 use Rattle.header.proofs.header_at.Tie as tie
 
-check-code-requires : tie.Need-check-code-requires
-check-code-requires c κs = search needs
+check-header-requires : tie.Need-check-header-requires
+check-header-requires c κs = search needs
 
 enum-told : tie.Need-enum-told
 enum-told c = search needs
@@ -29,9 +29,9 @@ returns : tie.Need-returns
 unfolding headerCall
 returns c =
     let a = c .before .before .before .before .before .before .before .before .before .before .args in
-    let ordered = code-ordered (now (a .objects)) (now (a .slots)) (now (a .payload)) (a .object) (c .before .before .before .before .before .check-code .ensures) (c .before .before .before .enum-told .given .1) in
+    let ordered = code-ordered (now (a .objects)) (now (a .slots)) (now (a .payload)) (now (a .layout)) (a .object) (c .before .before .before .before .before .check-header .ensures) (c .before .before .before .enum-told .given .1) in
     rw (
-      ← c .before .before .before .before .before .check-code .ensures,
+      ← c .before .before .before .before .before .check-header .ensures,
       c .before .before .before .enum-told .given .1,
       ← header-searched (now (a .slots)) (now (a .payload)) (objectOf (now (a .objects)) (a .object)) (layoutOf (now (a .layout))) ordered,
       ← c .before .before .object-of .ensures,
@@ -40,13 +40,13 @@ returns c =
 
 returns-2 : tie.Need-returns-2
 unfolding headerCall
-returns-2 c = rw (← c .before .before .before .check-code .ensures, c .before .refusal .given .1)
+returns-2 c = rw (← c .before .before .before .check-header .ensures, c .before .refusal .given .1)
 
 pub header-at-spec : {M : Type 1} → statement M
 header-at-spec =
     tie.close
     (tie.spec
-    check-code-requires
+    check-header-requires
     enum-told
     object-of-requires
     layout-of-requires

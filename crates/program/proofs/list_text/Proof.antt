@@ -18,25 +18,19 @@ enum-known-listed-2 c = search needs
 put-refusal-requires : tie.Need-put-refusal-requires
 put-refusal-requires c κs = search needs
 
-same-length : tie.Need-same-length
-same-length c = search needs
-
 returns : tie.Need-returns
 returns c =
-    let a = c .before .before .before .before .before .before .before .before .before .before .before .before .before .before .before .before .args in
-    let e = c .before .before .before .before .before .list-limited .ensures in
+    let a = c .before .before .before .before .before .before .before .before .before .before .before .before .before .args in
+    let e = c .before .before .before .list-limited .ensures in
     let f : Files = record { opcodes = now (a .opcodes); types = now (a .types); runtime = now (a .runtime); intrinsic = now (a .intrinsic); layout = now (a .layout); objects = now (a .objects); slots = now (a .slots); payload = now (a .payload) } in
-    printed-listing f (now (a .out)) (omega (arith, c .before .before .before .before .before .before .before .before .before .before .before .before .before .before .before .before .good)) (e .0) (e .1) _ (c .before .listed .given .1)
-
-same-length-2 : tie.Need-same-length-2
-same-length-2 c = search needs
+    printed-listing f (now (a .out)) (omega (arith, c .before .before .before .before .before .before .before .before .before .before .before .before .before .good)) (e .0) (e .1) _ (c .before .listed .given .1)
 
 returns-2 : tie.Need-returns-2
 returns-2 c =
-    let a = c .before .before .before .before .before .before .before .before .before .before .before .before .before .before .before .before .before .before .before .before .args in
-    let e = c .before .before .before .before .before .before .before .before .before .list-limited .ensures in
+    let a = c .before .before .before .before .before .before .before .before .before .before .before .before .before .before .before .args in
+    let e = c .before .before .before .before .before .list-limited .ensures in
     let f : Files = record { opcodes = now (a .opcodes); types = now (a .types); runtime = now (a .runtime); intrinsic = now (a .intrinsic); layout = now (a .layout); objects = now (a .objects); slots = now (a .slots); payload = now (a .payload) } in
-    printed-refusal f (now (a .out)) (omega (arith, c .before .before .before .before .before .before .before .before .before .before .before .before .before .before .before .before .before .before .before .before .good)) (e .0) (e .1) _ (c .before .before .before .before .before .listed2 .given .1) (c .before .before .put-refusal .ensures)
+    printed-refusal f (now (a .out)) (omega (arith, c .before .before .before .before .before .before .before .before .before .before .before .before .before .before .before .good)) (e .0) (e .1) _ (c .before .before .before .listed2 .given .1) (c .put-refusal .ensures)
 
 pub list-text-spec : {M : Type 1} → statement M
 list-text-spec =
@@ -46,7 +40,5 @@ list-text-spec =
     enum-known-listed
     enum-known-listed-2
     put-refusal-requires
-    same-length
     returns
-    same-length-2
     returns-2)

@@ -2,63 +2,45 @@ use Rattle.program.specs.Printed.{walkText}
 use borrow.Author.Needs.{needs}
 use Rattle.program.proofs.put_walked.Statement.{statement}
 use Rattle.program.proofs.put_walked.Tie as tie
-use Rattle.program.proofs.put_walked.Reads as reads
-use Rattle.program.proofs.put_walked.Lts as lts
-use Rattle.program.proofs.put_leaves.Reads as put-leaves-reads
-use Rattle.program.proofs.put_refusal.Reads as put-refusal-reads
-use Rattle.text.proofs.put_bytes.Reads as put-bytes-reads
 
--- src/lib.rt:126:43
 enum-told : tie.Need-enum-told
 enum-told c = search needs
 
--- src/lib.rt:126:52
 slice-aggregate-put-bytes : tie.Need-slice-aggregate-put-bytes
 slice-aggregate-put-bytes c = search needs
 
--- src/lib.rt:126:27
 put-bytes-requires : tie.Need-put-bytes-requires
 put-bytes-requires c κs = search needs
 
--- src/lib.rt:127:24
 enum-known-walked : tie.Need-enum-known-walked
 enum-known-walked c = search needs
 
--- src/lib.rt:127:42
 put-leaves-requires : tie.Need-put-leaves-requires
 put-leaves-requires c κs = search needs
 
--- src/lib.rt:128:25
 enum-known-walked-2 : tie.Need-enum-known-walked-2
 enum-known-walked-2 c = search needs
 
--- src/lib.rt:128:31
 put-refusal-requires : tie.Need-put-refusal-requires
 put-refusal-requires c κs = search needs
 
--- src/lib.rt:122:1
 same-length : tie.Need-same-length
 same-length c = search needs
 
--- src/lib.rt:122:1
 returns : tie.Need-returns
 unfolding walkText
 returns c = rw (c .before .before .before .before .before .enum-told .given .1) (c .before .before .put-bytes .ensures)
 
--- src/lib.rt:122:1
 same-length-2 : tie.Need-same-length-2
 same-length-2 c = search needs
 
--- src/lib.rt:122:1
 returns-2 : tie.Need-returns-2
 unfolding walkText
 returns-2 c = rw (c .before .before .before .before .before .walked .given .1) (c .before .before .put-leaves .ensures)
 
--- src/lib.rt:122:1
 same-length-3 : tie.Need-same-length-3
 same-length-3 c = search needs
 
--- src/lib.rt:122:1
 returns-3 : tie.Need-returns-3
 unfolding walkText
 returns-3 c = rw (c .before .before .before .before .before .walked2 .given .1) (c .before .before .put-refusal .ensures)

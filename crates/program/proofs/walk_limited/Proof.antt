@@ -8,51 +8,37 @@ use Rattle.program.proofs.Laws.{walk-within, walk-blind, walk-beyond, w
 use borrow.Author.Needs.{needs}
 use Rattle.program.proofs.walk_limited.Statement.{statement}
 use Rattle.program.proofs.walk_limited.Tie as tie
-use Rattle.program.proofs.walk_limited.Reads as reads
-use Rattle.program.proofs.walk_limited.Lts as lts
-use Rattle.program.proofs.within_limit.Reads as within-limit-reads
-use Rattle.tables.proofs.check_table.Reads as check-table-reads
-use Rattle.walk.proofs.walk.Reads as walk-reads
 
--- src/lib.rt:184:8
 within-limit-requires : tie.Need-within-limit-requires
 within-limit-requires c κs = search needs
 
--- src/lib.rt:185:9
 walk-requires : tie.Need-walk-requires
 walk-requires c κs = search needs
 
--- src/lib.rt:185:9
 same-length : tie.Need-same-length
 same-length c = search needs
 
--- src/lib.rt:185:9
 returns : tie.Need-returns
 returns c =
     let a = c .before .before .before .before .before .before .before .before .before .before .before .before .before .before .before .args in
     let f : Files = record { opcodes = now (a .opcodes); types = now (a .types); runtime = now (a .runtime); intrinsic = now (a .intrinsic); layout = now (a .layout); objects = now (a .objects); slots = now (a .slots); payload = now (a .payload) } in
     c .before .before .walk .ensures .0 .0 ∙ sym (ap (λ (x : Walked × List ℕ). x .0) (walk-within f (now (a .marks)) (sym (c .before .before .before .before .before .within-limit .ensures) ∙ c .before .before .before .before .if1 .taken))) ∙ walk-blind f (now (a .marks)) _ refl
 
--- src/lib.rt:198:11
 check-table-requires : tie.Need-check-table-requires
 check-table-requires c κs = search needs
 
--- src/lib.rt:199:38
 enum-told : tie.Need-enum-told
 enum-told c = search needs
 
--- src/lib.rt:203:24
 enum-known-r : tie.Need-enum-known-r
 enum-known-r c = search needs
 
--- src/lib.rt:171:1
 returns-2 : tie.Need-returns-2
 returns-2 c =
     let a = c .before .before .before .before .before .before .before .before .before .before .before .before .before .before .args in
     let f : Files = record { opcodes = now (a .opcodes); types = now (a .types); runtime = now (a .runtime); intrinsic = now (a .intrinsic); layout = now (a .layout); objects = now (a .objects); slots = now (a .slots); payload = now (a .payload) } in
     walk-beyond f _ (sym (c .before .before .before .before .within-limit .ensures) ∙ c .before .before .before .if1 .left) (sym (c .before .before .check-table .ensures) ∙ c .enum-told .given .1)
 
--- src/lib.rt:171:1
 returns-3 : tie.Need-returns-3
 returns-3 c =
     let a = c .before .before .before .before .before .before .before .before .before .before .before .before .before .before .before .args in

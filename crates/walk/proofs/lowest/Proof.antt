@@ -14,7 +14,7 @@ use Rattle.walk.proofs.lowest.Reads as reads
 use Rattle.walk.proofs.lowest.Lts as lts
 use Rattle.walk.proofs.exits.Reads as exits-reads
 use Rattle.walk.proofs.lower.Reads as lower-reads
-use Rattle.walk.proofs.wide32.Reads as wide32-reads
+use Rattle.walk.proofs.wide16.Reads as wide16-reads
 
 abbrev Inv-loop : tie.InvT-loop
 Inv-loop code opcodes types slots payload flows setup starts queue lo hi i₀ f₀ i f = (lo ≤ i) × (i ≤ hi) × Lowest (graphOf code opcodes types slots payload setup) queue lo i (foundAs f)
@@ -27,16 +27,16 @@ loop-holds : tie.Need-loop-holds Inv-loop μ-loop
 loop-holds c = (le-refl _, c .before .before .before .before .before .before .before .before .pre .0, λ i l u. absurd (omega arith))
 
 -- src/lib.rt:166:24
-mul-wide32 : tie.Need-mul-wide32 Inv-loop μ-loop
-mul-wide32 c = search needs
+mul-wide16 : tie.Need-mul-wide16 Inv-loop μ-loop
+mul-wide16 c = search needs
 
 -- src/lib.rt:166:24
-shared-slice-read-wide32 : tie.Need-shared-slice-read-wide32 Inv-loop μ-loop
-shared-slice-read-wide32 c = search needs
+shared-slice-read-wide16 : tie.Need-shared-slice-read-wide16 Inv-loop μ-loop
+shared-slice-read-wide16 c = search needs
 
 -- src/lib.rt:166:13
-wide32-requires : tie.Need-wide32-requires Inv-loop μ-loop
-wide32-requires c κs = search needs
+wide16-requires : tie.Need-wide16-requires Inv-loop μ-loop
+wide16-requires c κs = search needs
 
 -- src/lib.rt:167:9
 add-i : tie.Need-add-i Inv-loop μ-loop
@@ -64,7 +64,7 @@ the-graph i = let a = start i .args in graphOf (now (a .code)) (now (a .opcodes)
 loop-again : tie.Need-loop-again Inv-loop μ-loop
 loop-again c =
     let i = c .before .before .before .before .before .before in
-    (omega arith, omega arith, lowest-found (the-graph i) (now (start i .args .queue)) (start i .args .lo) (i .loop .i) (foundAs (i .loop .f)) _ _ (c .before .before .before .wide32 .ensures) (i .loop .inv .0) (sym (c .before .before .exits .ensures) ∙ c .before .if1 .taken) (c .lower .ensures) (i .loop .inv .2))
+    (omega arith, omega arith, lowest-found (the-graph i) (now (start i .args .queue)) (start i .args .lo) (i .loop .i) (foundAs (i .loop .f)) _ _ (c .before .before .before .wide16 .ensures) (i .loop .inv .0) (sym (c .before .before .exits .ensures) ∙ c .before .if1 .taken) (c .lower .ensures) (i .loop .inv .2))
 
 -- src/lib.rt:165:5
 loop-less-2 : tie.Need-loop-less-2 Inv-loop μ-loop
@@ -74,7 +74,7 @@ loop-less-2 c = search needs
 loop-again-2 : tie.Need-loop-again-2 Inv-loop μ-loop
 loop-again-2 c =
     let i = c .before .before .before .before .before in
-    (omega arith, omega arith, lowest-passed (the-graph i) (now (start i .args .queue)) (start i .args .lo) (i .loop .i) (foundAs (i .loop .f)) _ (c .before .before .wide32 .ensures) (sym (c .before .exits .ensures) ∙ c .if1 .left) (i .loop .inv .2))
+    (omega arith, omega arith, lowest-passed (the-graph i) (now (start i .args .queue)) (start i .args .lo) (i .loop .i) (foundAs (i .loop .f)) _ (c .before .before .wide16 .ensures) (sym (c .before .exits .ensures) ∙ c .if1 .left) (i .loop .inv .2))
 
 -- src/lib.rt:147:1
 returns : tie.Need-returns Inv-loop μ-loop
@@ -90,9 +90,9 @@ lowest-spec =
     Inv-loop
     μ-loop
     loop-holds
-    mul-wide32
-    shared-slice-read-wide32
-    wide32-requires
+    mul-wide16
+    shared-slice-read-wide16
+    wide16-requires
     add-i
     exits-requires
     lower-requires

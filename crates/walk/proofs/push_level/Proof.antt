@@ -15,7 +15,7 @@ use Rattle.walk.proofs.push_level.Tie as tie
 use Rattle.walk.proofs.push_level.Reads as reads
 use Rattle.walk.proofs.push_level.Lts as lts
 use Rattle.walk.proofs.push_steps.Reads as push-steps-reads
-use Rattle.walk.proofs.wide32.Reads as wide32-reads
+use Rattle.walk.proofs.wide16.Reads as wide16-reads
 
 abbrev Inv-loop : tie.InvT-loop
 Inv-loop code opcodes types slots payload flows setup marks₀ queue₀ lo hi end₀ i₀ marks queue end i = (lo ≤ i) × (i ≤ hi) × Grown queue₀ hi marks queue end (SuccIn (graphOf code opcodes types slots payload setup) queue₀ lo i) × (length marks ≡ length marks₀) × (length queue ≡ length queue₀)
@@ -28,16 +28,16 @@ loop-holds : tie.Need-loop-holds Inv-loop μ-loop
 loop-holds c = (le-refl _, c .before .before .before .before .before .before .before .before .pre .2, grown-none (c .before .before .before .before .before .before .before .before .pre .0) (λ p x. absurd (omega (arith, x .1, x .2))), refl, refl)
 
 -- src/lib.rt:256:24
-mul-wide32 : tie.Need-mul-wide32 Inv-loop μ-loop
-mul-wide32 c = let s = c .before .before .before .before .before .before .before .before .before .before in omega (arith, held-le (s .pre .0), s .pre .0 .small, c .loop-test .taken)
+mul-wide16 : tie.Need-mul-wide16 Inv-loop μ-loop
+mul-wide16 c = let s = c .before .before .before .before .before .before .before .before .before .before in omega (arith, held-le (s .pre .0), s .pre .0 .small, c .loop-test .taken)
 
 -- src/lib.rt:256:24
-slice-read-wide32 : tie.Need-slice-read-wide32 Inv-loop μ-loop
-slice-read-wide32 c = let s = c .before .before .before .before .before .before .before .before .before .before .before in omega (arith, held-le (s .pre .0), s .pre .0 .room, c .before .loop-test .taken, c .before .before .loop .inv .4)
+slice-read-wide16 : tie.Need-slice-read-wide16 Inv-loop μ-loop
+slice-read-wide16 c = let s = c .before .before .before .before .before .before .before .before .before .before .before in omega (arith, held-le (s .pre .0), s .pre .0 .room, c .before .loop-test .taken, c .before .before .loop .inv .4)
 
 -- src/lib.rt:256:13
-wide32-requires : tie.Need-wide32-requires Inv-loop μ-loop
-wide32-requires c κs = search needs
+wide16-requires : tie.Need-wide16-requires Inv-loop μ-loop
+wide16-requires c κs = search needs
 
 abbrev start : tie.At-loop Inv-loop μ-loop → tie.Start Inv-loop μ-loop
 start i = i .before .before .before .before .before .before .before .before .before
@@ -53,7 +53,7 @@ push-steps-requires c κs =
     let h = c .before .before .before .before .loop-test .taken in (
       i .loop .inv .2 .held,
       i .loop .inv .3 ∙ s .pre .1,
-      ap (exits (the-graph i)) (c .before .before .wide32 .ensures ∙ i .loop .inv .2 .kept (i .loop .i) h) ∙ s .pre .3 (i .loop .i) (i .loop .inv .0) h,
+      ap (exits (the-graph i)) (c .before .before .wide16 .ensures ∙ i .loop .inv .2 .kept (i .loop .i) h) ∙ s .pre .3 (i .loop .i) (i .loop .inv .0) h,
       s .pre .4,
     )
 
@@ -72,7 +72,7 @@ loop-again c =
     let h = c .before .before .before .before .before .before .before .before .before .loop-test .taken in (
       omega (arith, i .loop .inv .0),
       omega (arith, h),
-      level-more (the-graph i) _ _ _ (c .before .before .before .before .before .before .before .wide32 .ensures) (i .loop .inv .0) h (i .loop .inv .2) (c .before .before .before .before .push-steps .ensures),
+      level-more (the-graph i) _ _ _ (c .before .before .before .before .before .before .before .wide16 .ensures) (i .loop .inv .0) h (i .loop .inv .2) (c .before .before .before .before .push-steps .ensures),
       c .before .before .before .before .push-steps .kept .1 .1 .1 .1 .1 .1 .1 .1 .0 ∙ i .loop .inv .3,
       c .before .before .before .before .push-steps .kept .1 .1 .1 .1 .1 .1 .1 .1 .1 .0 ∙ i .loop .inv .4,
     )
@@ -100,9 +100,9 @@ push-level-spec =
     Inv-loop
     μ-loop
     loop-holds
-    mul-wide32
-    slice-read-wide32
-    wide32-requires
+    mul-wide16
+    slice-read-wide16
+    wide16-requires
     push-steps-requires
     add-i
     loop-less

@@ -16,14 +16,17 @@ returns c = search needs
 cast-n : tie.Need-cast-n Inv-loop μ-loop
 cast-n c = search needs
 
-is-instr-head-requires : tie.Need-is-instr-head-requires Inv-loop μ-loop
-is-instr-head-requires c κs = search needs
+is-head-requires : tie.Need-is-head-requires Inv-loop μ-loop
+is-head-requires c κs = search needs
 
 returns-2 : tie.Need-returns-2 Inv-loop μ-loop
 returns-2 c = search needs
 
 loop-holds : tie.Need-loop-holds Inv-loop μ-loop
 loop-holds c = search needs
+
+cast-is-operand : tie.Need-cast-is-operand Inv-loop μ-loop
+cast-is-operand c = search needs
 
 mul-is-operand : tie.Need-mul-is-operand Inv-loop μ-loop
 mul-is-operand c = search needs
@@ -63,9 +66,10 @@ is-instr-spec =
     μ-loop
     returns
     cast-n
-    is-instr-head-requires
+    is-head-requires
     returns-2
     loop-holds
+    cast-is-operand
     mul-is-operand
     add-is-operand
     cast-operand-of

@@ -2,10 +2,6 @@ use Prim.Native.Nat.{_-_}
 use borrow.Author.Needs.{needs}
 use Rattle.rewalk.proofs.each.are_prefixes.Statement.{statement}
 use Rattle.rewalk.proofs.each.are_prefixes.Tie as tie
-use Rattle.rewalk.proofs.each.are_prefixes.Reads as reads
-use Rattle.rewalk.proofs.each.are_prefixes.Lts as lts
-use Rattle.rewalk.proofs.each.are_walked.Reads as are-walked-reads
-use Rattle.std.proofs.num.wrapping_add_u64.Reads as wrapping-add-u64-reads
 
 abbrev Inv-loop : tie.InvT-loop
 Inv-loop bytes files object n first count runs k₀ k = Unit {0}

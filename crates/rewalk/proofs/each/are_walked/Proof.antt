@@ -2,12 +2,6 @@ use Prim.Native.Nat.{_-_}
 use borrow.Author.Needs.{needs}
 use Rattle.rewalk.proofs.each.are_walked.Statement.{statement}
 use Rattle.rewalk.proofs.each.are_walked.Tie as tie
-use Rattle.rewalk.proofs.each.are_walked.Reads as reads
-use Rattle.rewalk.proofs.each.are_walked.Lts as lts
-use Rattle.rewalk.proofs.each.is_walked.Reads as is-walked-reads
-use Rattle.rewalk.proofs.each.no_run.Reads as no-run-reads
-use Rattle.rewalk.proofs.each.run_after.Reads as run-after-reads
-use Rattle.rewalk.proofs.items.lent.Reads as lent-reads
 
 abbrev Inv-loop : tie.InvT-loop
 Inv-loop bytes files object n prefix runs run₀ b₀ run b = Unit {0}

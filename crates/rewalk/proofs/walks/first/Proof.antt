@@ -4,8 +4,6 @@ use lib.Seq.{length-take-le}
 use borrow.Author.Needs.{needs}
 use Rattle.rewalk.proofs.walks.first.Statement.{statement}
 use Rattle.rewalk.proofs.walks.first.Tie as tie
-use Rattle.rewalk.proofs.walks.first.Reads as reads
-use Rattle.rewalk.proofs.walks.first.Lts as lts
 
 -- src/walks.rt:47:9
 slice-aggregate-result : tie.Need-slice-aggregate-result

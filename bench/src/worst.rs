@@ -1,0 +1,185 @@
+//! The worst cases within document 01's limits: what the listing and the walk check take for each.
+
+use crate::{alike, lent, median, ours, time, Room};
+use oracle::port::{Port, STORE, TABLE};
+use oracle::records::*;
+use oracle::sample;
+
+/// Document 01's limits.
+const MOST_CODE: usize = 65_536;
+const MOST_ENTRIES: usize = 4_096;
+const MOST_OBJECTS: usize = 65_536;
+const MOST_SLOTS: usize = 1_048_576;
+
+/// Code over slots of equal index is so many times shorter than it could be; time is in proportion to it.
+const SHORTER: usize = 64;
+/// Bytes of the longest listing and some more.
+const ROOM: usize = 1 << 30;
+/// A call that takes less than a second is measured so often.
+const ROUNDS: usize = 11;
+
+const LDA_ZERO: u8 = 0x02;
+const JUMP_CONSTANT: u8 = 0x08;
+const SWITCH: u8 = 0x09;
+const RETURN: u8 = 0x0b;
+
+struct Case {
+    name: &'static str,
+    files: Files,
+    /// Bytes of code.
+    code: usize,
+    /// How many times as long it takes at the limits.
+    grows: usize,
+    /// Whether the Rust lists it in reasonable time.
+    rust: bool,
+}
+
+const CASES: [fn() -> Case; 5] = [one_byte, switches, objects, equal_slots, both];
+
+pub fn report() -> Result<(), String> {
+    println!("Worst cases within document 01's limits: milliseconds of processor time.");
+    println!("listing, walk: our whole calls, the buffer as long as the listing; rust: render_sfi where it can be had.");
+    println!("grows: how many times as long it takes with code of 65,536 bytes.");
+    let [a, b, c, d, e, f] = ["case", "bytes", "listing", "walk", "rust", "grows"];
+    println!("{a:<24} {b:>6} {c:>10} {d:>10} {e:>10} {f:>6}");
+    for case in CASES {
+        println!("{}", line(&case())?);
+    }
+    Ok(())
+}
+
+fn line(case: &Case) -> Result<String, String> {
+    let Case { name, files, code, grows, rust } = case;
+    let mut room = Room::of(ROOM);
+    let size = ours::list(&lent(files), 0, &mut room.bytes).map_err(|r| format!("{name}: {r}"))?;
+    let rust = match rust {
+        true => format!("{:.1}", rusts(&mut room, case, size)?),
+        false => "-".into(),
+    };
+    // In a buffer that is just long enough a listing is measured first and then written.
+    let listing =
+        milliseconds(|| ours::list(&lent(files), 0, &mut room.bytes[..size]).unwrap_or(0));
+    let mut answer = Ok(ours::Walked::Closed);
+    let walk = milliseconds(|| {
+        answer = ours::walk(&lent(files), 0, &mut room.bytes);
+        0
+    });
+    if answer != Ok(ours::Walked::Closed) {
+        return Err(format!("{name}: {answer:?}, not closed"));
+    }
+    Ok(format!("{name:<24} {code:>6} {listing:>10.1} {walk:>10.1} {rust:>10} {grows:>6}"))
+}
+
+/// The Rust's time. Its listing is the one of so many bytes in the room.
+fn rusts(room: &mut Room, case: &Case, size: usize) -> Result<f64, String> {
+    let port = Port::new(&case.files, TABLE | STORE)?;
+    let taken = milliseconds(|| room.rust(&port));
+    alike(room, size, case.name)?;
+    Ok(taken)
+}
+
+fn milliseconds(mut call: impl FnMut() -> usize) -> f64 {
+    let first = time(1, &mut call) / 1e3;
+    if first > 1e3 {
+        return first;
+    }
+    let mut all: Vec<f64> = (0..ROUNDS).map(|_| time(1, &mut call) / 1e3).collect();
+    median(&mut all)
+}
+
+// ---- cases ----
+
+fn one_byte() -> Case {
+    let code = repeated(&[LDA_ZERO], MOST_CODE);
+    Case {
+        name: "one-byte instructions",
+        files: sample::function(&code, 8, &[]),
+        code: code.len(),
+        grows: 1,
+        rust: true,
+    }
+}
+
+/// Each has as many entries as there may be, all to the instruction behind it. UImm is 2 bytes wide.
+fn switches() -> Case {
+    let [low, high] = (MOST_ENTRIES as u16).to_le_bytes();
+    let switch = [SWITCH, 0, low, high, 0];
+    let code = repeated(&switch, MOST_CODE);
+    let mut files = sample::function(&code, 8, &[]);
+    set_record(&mut files, TYPES, 11, &type_record(TYPE_NAMES[11], 2, true));
+    add_pool(&mut files, &[switch.len() as i32; MOST_ENTRIES], 0);
+    Case { name: "switches", files, code: code.len(), grows: 1, rust: true }
+}
+
+/// All objects but the function over the same slots of equal index. An index that falls in front of these, where no object has it, makes
+/// the check of the store ask every object.
+fn objects() -> Case {
+    const FIRST: usize = 256;
+    let mut files = sample::function(&[RETURN], 8, &[]);
+    let between = Slot { index: 6, ..Slot::default() };
+    add_slots(&mut files, between, FIRST);
+    add_slots(&mut files, Slot { index: 1, ..Slot::default() }, MOST_SLOTS);
+    let (first, count) = (FIRST as u32, (MOST_SLOTS - FIRST) as u32);
+    let object = Object { first, count, ..Object::default() };
+    files.body[OBJECTS].extend(object.bytes().repeat(MOST_OBJECTS - 1));
+    // The Rust's objects own their slots: there is no room for them.
+    Case { name: "objects", files, code: 1, grows: 1, rust: false }
+}
+
+/// Each jump looks its distance up behind all slots of the pool.
+fn equal_slots() -> Case {
+    let jump = [JUMP_CONSTANT, 0];
+    let code = repeated(&jump, MOST_CODE / SHORTER);
+    let mut files = sample::function(&code, 8, &[]);
+    add_pool(&mut files, &[jump.len() as i32], MOST_SLOTS);
+    Case { name: "equal slots", files, code: code.len(), grows: SHORTER, rust: true }
+}
+
+/// Each switch does so for five entries: a walk stops after an index that is 5 lower than the one sought, so that a sixth entry costs little.
+fn both() -> Case {
+    const ENTRIES: u8 = 5;
+    let switch = [SWITCH, 0, ENTRIES, 0];
+    let code = repeated(&switch, MOST_CODE / SHORTER);
+    let mut files = sample::function(&code, 8, &[]);
+    add_pool(&mut files, &[switch.len() as i32; ENTRIES as usize], MOST_SLOTS);
+    Case { name: "both", files, code: code.len(), grows: SHORTER, rust: true }
+}
+
+// ---- records ----
+
+/// An instruction as often as it goes into so many bytes with a Return behind it.
+fn repeated(instruction: &[u8], size: usize) -> Vec<u8> {
+    let mut code = instruction.repeat((size - 1) / instruction.len());
+    code.push(RETURN);
+    code
+}
+
+fn set_record(files: &mut Files, file: usize, number: usize, record: &[u8]) {
+    files.body[file][number * SIZES[file]..][..SIZES[file]].copy_from_slice(record);
+}
+
+/// Appends a slot until there are so many.
+fn add_slots(files: &mut Files, slot: Slot, until: usize) {
+    let more = until.saturating_sub(files.count(SLOTS));
+    files.body[SLOTS].extend(slot.bytes().repeat(more));
+}
+
+/// Makes object 1 the function's pool: its elements in one run, and behind it slots of the run's index that hold nothing, until there are
+/// so many slots.
+fn add_pool(files: &mut Files, elements: &[i32], slots: usize) {
+    let reference = Slot { index: 2, kind: 1, number: 1, ..Slot::default() };
+    set_record(files, SLOTS, 1, &reference.bytes());
+    let first = files.count(SLOTS);
+    let number = files.body[PAYLOAD].len() as u32;
+    for value in [elements.len() as i32].iter().chain(elements) {
+        files.body[PAYLOAD].extend(((*value as u32 as u64) << 32).to_le_bytes());
+    }
+    let length = 8 * elements.len() as u32;
+    let count = Slot { index: 1, kind: 4, number, length: 8, ..Slot::default() };
+    let run = Slot { index: 2, kind: 4, number: number + 8, length, ..Slot::default() };
+    files.body[SLOTS].extend([count.bytes(), run.bytes()].concat());
+    add_slots(files, Slot { index: 2, ..Slot::default() }, slots);
+    let count = (files.count(SLOTS) - first) as u32;
+    let pool = Object { first: first as u32, count, byte_size: 16 + length, ..Object::default() };
+    files.body[OBJECTS].extend(pool.bytes());
+}

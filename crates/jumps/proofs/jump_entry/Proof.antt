@@ -1,0 +1,83 @@
+use Prim.Native.Nat.{ℕ}
+use mathlib.Core.Path.{sym, ap, _∙_}
+use mathlib.Core.List.{[]}
+use denote.Ref.{now}
+use Rattle.tables.specs.declared.Layout.{Layout}
+use Rattle.disasm.specs.Listing.{Files}
+use Rattle.serializer.specs.declared.Elem.{Elem}
+use Rattle.decoder.specs.declared.Decoded.{Decoded}
+use Rattle.targets.specs.declared.Pool.{Pool}
+use Rattle.targets.specs.Targets.{poolSearched, found, here}
+use Rattle.jumps.specs.declared.TableAt.{TableAt}
+use Rattle.jumps.specs.Jumps.{ownerPool, ownerFound, ownerElem, decodedAt, tableOf, tableCall, entryOf, entryCall}
+use Rattle.jumps.proofs.Laws.{lent-pool, lent-elems}
+use borrow.Author.Needs.{needs}
+use Rattle.jumps.proofs.jump_entry.Statement.{statement}
+use Rattle.jumps.proofs.jump_entry.Tie as tie
+
+check-lent-requires : tie.Need-check-lent-requires
+check-lent-requires c κs = search needs
+
+enum-known-refusal : tie.Need-enum-known-refusal
+enum-known-refusal c = search needs
+
+enum-told : tie.Need-enum-told
+enum-told c = search needs
+
+layout-of-requires : tie.Need-layout-of-requires
+layout-of-requires c κs = search needs
+
+pool-of-requires : tie.Need-pool-of-requires
+pool-of-requires c κs = search needs
+
+decode-with-requires : tie.Need-decode-with-requires
+decode-with-requires c κs = search needs
+
+table-of-requires : tie.Need-table-of-requires
+table-of-requires c κs = search needs
+
+here-requires : tie.Need-here-requires
+here-requires c κs = search needs
+
+entry-of-requires : tie.Need-entry-of-requires
+entry-of-requires c κs = search needs
+
+returns : tie.Need-returns
+unfolding entryCall tableCall
+returns c = rw (← c .before .before .before .check-lent .ensures, c .before .refusal .given .1)
+
+returns-2 : tie.Need-returns-2
+unfolding entryCall tableCall
+returns-2 c =
+    let a = c .before .before .before .before .before .before .before .before .before .before .before .before .before .before .before .before .before .args in
+    let f : Files = record { opcodes = now (a .opcodes); types = now (a .types); runtime = []; intrinsic = []; layout = now (a .layout); objects = now (a .objects); slots = now (a .slots); payload = now (a .payload) } in
+    let w = a .owner in
+    let ok = sym (c .before .before .before .before .before .before .before .before .before .check-lent .ensures) ∙ c .before .before .before .before .before .before .before .enum-told .given .1 in
+    let p = c .before .before .before .before .before .pool-of .ensures ∙ ap (λ (x : Layout). ownerFound (f .objects) (f .slots) x w) (c .before .before .before .before .before .before .layout-of .ensures) in
+    let decoded = c .before .before .before .before .decode-with .ensures in
+    let t = c .before .before .before .table-of .ensures
+    ∙ ap (λ (x : Pool). tableOf (f .opcodes) (found x) (c .before .before .before .before .decode-with .result) (a .at)) (lent-pool f w (now (a .code)) ok p)
+    ∙ ap (λ (x : Decoded). tableOf (f .opcodes) (found (ownerPool f w)) x (a .at)) decoded in
+    let from = c .before .here .ensures ∙ ap (λ (x : Decoded). here (x .instr)) decoded in
+    rw ok
+    (c .entry-of .ensures
+    ∙ ap (λ (x : Layout). entryOf (poolSearched (f .slots) (f .payload) (x .«tagged_size») (c .before .before .before .before .before .pool-of .result)) (c .before .here .result) (c .before .before .before .table-of .result) (a .k)) (c .before .before .before .before .before .before .layout-of .ensures)
+    ∙ ap (λ (x : ℕ → Elem). entryOf x (c .before .here .result) (c .before .before .before .table-of .result) (a .k)) (lent-elems f w (now (a .code)) ok p)
+    ∙ ap (λ (x : ℕ). entryOf (ownerElem f w) x (c .before .before .before .table-of .result) (a .k)) from
+    ∙ ap (λ (x : TableAt). entryOf (ownerElem f w) (here (decodedAt f (now (a .code)) (a .at) .instr)) x (a .k)) t)
+
+pub jump-entry-spec : {M : Type 1} → statement M
+jump-entry-spec =
+    tie.close
+    (tie.spec
+    check-lent-requires
+    enum-known-refusal
+    enum-told
+    layout-of-requires
+    pool-of-requires
+    decode-with-requires
+    table-of-requires
+    here-requires
+    entry-of-requires
+    returns
+    returns-2)

@@ -1,0 +1,1 @@
+// 01's sample table (specs/Sample.antt). It has no code.

@@ -1,0 +1,30 @@
+use Rattle.tables.specs.Check.{checkLayoutFile}
+use borrow.Author.Needs.{needs}
+use Rattle.tables.proofs.check_layout_file.Statement.{statement}
+use Rattle.tables.proofs.check_layout_file.Tie as tie
+
+whole-records-requires : tie.Need-whole-records-requires
+whole-records-requires c κs = search needs
+
+unless-requires : tie.Need-unless-requires
+unless-requires c κs = search needs
+
+check-layout-requires : tie.Need-check-layout-requires
+check-layout-requires c κs = search needs
+
+or-else-requires : tie.Need-or-else-requires
+or-else-requires c κs = search needs
+
+returns : tie.Need-returns
+unfolding checkLayoutFile
+returns c = rw (c .or-else .ensures, c .before .check-layout .ensures, c .before .before .unless .ensures, c .before .before .before .whole-records .ensures)
+
+pub check-layout-file-spec : {M : Type 1} → statement M
+check-layout-file-spec =
+    tie.close
+    (tie.spec
+    whole-records-requires
+    unless-requires
+    check-layout-requires
+    or-else-requires
+    returns)

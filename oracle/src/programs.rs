@@ -1,0 +1,214 @@
+//! What the programs jscd_list, jscd_walk and file_cases are run on in the gate, and what they must
+//! print: the listing as the Rust says it, the walk as document 01 does.
+
+use crate::ask::{ask, Call, LISTING, WALK};
+use crate::checks::PROGRAM_FILE;
+use crate::records::*;
+use crate::sample;
+use std::collections::BTreeMap;
+use std::path::Path;
+
+/// Contents by path below crates/.
+pub type Tree = BTreeMap<String, Vec<u8>>;
+
+/// Bytes of the sample's payload in front of its code.
+const HEADER: usize = 46;
+
+/// Bytes for code in file_cases, so that one object record and one slot record serve every payload.
+const ROOM: usize = 10;
+
+const SAMPLE_CODE: &[u8] = &[0x03, 0x05, 0x04, 0xfa, 0x0b];
+const P11: &[u8] = &[0x00, 0x05, 0x03, 0x00, 0x02];
+const SWITCH: &[u8] = &[0x09, 0x00, 0x02, 0x05, 0x0b];
+
+/// CallRuntime with name 1, InvokeIntrinsic with name 0, and Return.
+const BOTH_NAMES: &[u8] = &[0x0a, 0x01, 0x00, 0xfa, 0x01, 0x0c, 0x00, 0xfa, 0x01, 0x0b];
+
+/// What file_cases is lent as arguments, eight files a set: the usual names, but for these.
+const SETS: [&[(usize, &str)]; 13] = [
+    &[],
+    &[(PAYLOAD, "full.bin")],
+    &[(PAYLOAD, "long.bin")],
+    &[(OPCODES, "long.bin")],
+    &[(PAYLOAD, "none.bin")],
+    &[(PAYLOAD, ".")],
+    &[(PAYLOAD, "p10.bin")],
+    &[(PAYLOAD, "p11.bin")],
+    &[(PAYLOAD, "p12.bin")],
+    &[(PAYLOAD, "off.bin")],
+    &[(OBJECTS, "switch_objects.bin"), (SLOTS, "switch_slots.bin"), (PAYLOAD, "switch.bin")],
+    &[(OPCODES, "prefix_3.bin")],
+    &[(OBJECTS, "switch_objects.bin"), (SLOTS, "kind_6.bin"), (PAYLOAD, "switch.bin")],
+];
+
+/// The cases of file_cases: title, program, and the set.
+const CASES: [(&str, usize, usize); 24] = [
+    ("list: the usual names, not as arguments", LISTING, 0),
+    ("list: the usual names", LISTING, 0),
+    ("list: payload of 65,536 bytes", LISTING, 1),
+    ("list: payload of 65,537 bytes", LISTING, 2),
+    ("list: opcodes of 65,537 bytes", LISTING, 3),
+    ("list: payload missing", LISTING, 4),
+    ("list: payload a folder", LISTING, 5),
+    ("list: a switch", LISTING, 10),
+    ("list: opcode 4 with prefix byte 3", LISTING, 11),
+    ("list: slot 4 of kind 6", LISTING, 12),
+    ("walk: the usual names, not as arguments", WALK, 0),
+    ("walk: the usual names", WALK, 0),
+    ("walk: payload of 65,536 bytes", WALK, 1),
+    ("walk: payload of 65,537 bytes", WALK, 2),
+    ("walk: opcodes of 65,537 bytes", WALK, 3),
+    ("walk: payload missing", WALK, 4),
+    ("walk: payload a folder", WALK, 5),
+    ("walk: 05 01", WALK, 6),
+    ("walk: 00 05 03 00 02", WALK, 7),
+    ("walk: 06 02 0b", WALK, 8),
+    ("walk: 06 03 0b", WALK, 9),
+    ("walk: a switch", WALK, 10),
+    ("walk: opcode 4 with prefix byte 3", WALK, 11),
+    ("walk: slot 4 of kind 6", WALK, 12),
+];
+
+/// The data folders, arguments and outputs of the three programs.
+pub fn record() -> Result<Tree, String> {
+    let mut tree = Tree::new();
+    let mut walked = sample::sample();
+    walked.body[PAYLOAD].splice(HEADER.., P11.iter().copied());
+    for (program, files, call) in
+        [("jscd_list", sample::sample(), LISTING), ("jscd_walk", walked, WALK)]
+    {
+        tree.insert(format!("{program}/stdout"), said(&files, call)?.into_bytes());
+        for (name, body) in NAMES.iter().zip(files.body) {
+            tree.insert(format!("{program}/data/{name}"), body);
+        }
+    }
+    let data = case_files();
+    tree.insert("file_cases/args".into(), arguments().into_bytes());
+    tree.insert("file_cases/stdout".into(), case_output(&data)?.into_bytes());
+    for (name, body) in data {
+        tree.insert(format!("file_cases/data/{name}"), body);
+    }
+    Ok(tree)
+}
+
+/// Writes the tree into the folder crates/.
+pub fn write(folder: &Path) -> Result<usize, String> {
+    let tree = record()?;
+    for (path, body) in &tree {
+        let path = folder.join(path);
+        let shown = |e: std::io::Error| format!("{}: {e}", path.display());
+        std::fs::create_dir_all(path.parent().unwrap_or(folder)).map_err(shown)?;
+        std::fs::write(&path, body).map_err(shown)?;
+    }
+    Ok(tree.len())
+}
+
+/// What a program prints.
+fn said(files: &Files, function: usize) -> Result<String, String> {
+    let marks = [65_536];
+    let args: &[u64] = if function == WALK { &marks } else { &[] };
+    let said = ask(files, &[], &Call::new(function, args))?.to_string();
+    Ok(format!("{}\n", said.trim_end_matches('\n')))
+}
+
+/// The files of file_cases. Those of the usual names are the sample's table with InvokeIntrinsic as
+/// opcode 0c and V8's first names of each kind, two and one, and a function that shows one of each.
+fn case_files() -> BTreeMap<&'static str, Vec<u8>> {
+    let mut files = sample::sample();
+    files.body[OPCODES].extend(opcode_record("InvokeIntrinsic", 0, &[16, 6, 8]));
+    for name in ["DebugBreakOnBytecode", "LoadLookupSlotForCall"] {
+        files.body[RUNTIME].extend(name_record(name));
+    }
+    files.body[INTRINSIC] = name_record("AsyncFunctionAwaitCaught");
+    files.body[OBJECTS] =
+        Object { kind: 1, count: 1, byte_size: 54 + ROOM as u32, ..Object::default() }.bytes();
+    let length = (HEADER + ROOM) as u32;
+    files.body[SLOTS] = Slot { index: 1, kind: 4, length, ..Slot::default() }.bytes();
+    files.body[PAYLOAD] = payload(BOTH_NAMES);
+    let mut prefix_3 = files.body[OPCODES].clone();
+    prefix_3[4 * 64 + 40] = 3;
+    let mut full = payload(SAMPLE_CODE);
+    full.resize(PROGRAM_FILE, 0);
+    let mut long = full.clone();
+    long.push(0);
+    let [.., objects, slots, switch] = sample::function(SWITCH, 8, &[Some(4), None]).body;
+    let mut kind_6 = slots.clone();
+    kind_6[4 * 24 + 4] = 6;
+    let mut out: BTreeMap<_, _> = NAMES.into_iter().zip(files.body).collect();
+    out.extend([
+        ("full.bin", full),
+        ("long.bin", long),
+        ("p10.bin", payload(&[0x05, 0x01])),
+        ("p11.bin", payload(P11)),
+        ("p12.bin", payload(&[0x06, 0x02, 0x0b])),
+        ("off.bin", payload(&[0x06, 0x03, 0x0b])),
+        ("switch_objects.bin", objects),
+        ("switch_slots.bin", slots),
+        ("switch.bin", switch),
+        ("prefix_3.bin", prefix_3),
+        ("kind_6.bin", kind_6),
+    ]);
+    out
+}
+
+/// The sample's payload with this code, and zeros behind it.
+fn payload(code: &[u8]) -> Vec<u8> {
+    let mut out = sample::sample().body[PAYLOAD][..HEADER].to_vec();
+    out[4] = code.len() as u8;
+    out.extend(code);
+    out.resize(HEADER + ROOM, 0);
+    out
+}
+
+/// The eight names of a set.
+fn names(set: usize) -> [&'static str; 8] {
+    let mut out = NAMES;
+    for (file, name) in SETS[set] {
+        out[*file] = name;
+    }
+    out
+}
+
+/// One name a line.
+fn arguments() -> String {
+    (0..SETS.len()).flat_map(names).map(|name| format!("{name}\n")).collect()
+}
+
+/// Each case's title and answer; where a file is missing, and for a wrong number of arguments, there is
+/// none.
+fn case_output(data: &BTreeMap<&str, Vec<u8>>) -> Result<String, String> {
+    let mut out = String::new();
+    for (title, function, set) in CASES {
+        out += &format!("{title}\n");
+        let bodies: Option<Vec<Vec<u8>>> =
+            names(set).iter().map(|name| data.get(name).cloned()).collect();
+        if let Some(Ok(body)) = bodies.map(<[Vec<u8>; 8]>::try_from) {
+            out += &said(&Files { body }, function)?;
+        }
+    }
+    out += &format!("list: {} arguments\n", 8 * SETS.len());
+    Ok(out)
+}
+
+#[cfg(test)]
+mod tests {
+    use super::*;
+
+    /// The files of the three programs are what is made today.
+    #[test]
+    fn the_programs_files_are_current() {
+        let crates = Path::new(env!("CARGO_MANIFEST_DIR")).join("../crates");
+        for (path, body) in record().unwrap() {
+            assert!(std::fs::read(crates.join(&path)).unwrap() == body, "{path}");
+        }
+    }
+
+    /// A runtime name and an intrinsic name show, and not one for the other.
+    #[test]
+    fn both_names_show() {
+        let listing = record().unwrap()["file_cases/stdout"].clone();
+        let listing = String::from_utf8(listing).unwrap();
+        assert!(listing.contains("CallRuntime [LoadLookupSlotForCall], r0-r0\n"));
+        assert!(listing.contains("InvokeIntrinsic [_AsyncFunctionAwaitCaught], r0-r0\n"));
+    }
+}
