@@ -11,7 +11,7 @@ use Rattle.tables.specs.Layout.{ranges, rangeOf, layoutOf}
 use Rattle.tables.specs.Texts.{runtimeName}
 use Rattle.tables.specs.Check.{wholeRecords, checkTable}
 use Rattle.operand.specs.Operand.{kinds, kindOf, ofKind, interpret, isList}
-use Rattle.decoder.specs.Instr.{headAt}
+use Rattle.decoder.specs.Head.{headAt}
 use Rattle.decoder.specs.Decode.{partsFrom, readParts, decodeAt}
 use Rattle.decoder.specs.Listed.{listFrom}
 use Rattle.bytecode.specs.Decode.{decodeOne}
@@ -19,7 +19,7 @@ use Rattle.bytecode.specs.Texts.{paramName, regName, listName, operandText, ins
 use Rattle.flow.specs.Flow.{flowNames, flows, flowNumber, flowBy}
 use Rattle.targets.specs.Targets.{poolElem, operandOf, indexOf, numberOf, distanceBy, jumpTarget, jumpTable, tableBy, sizedBy}
 use Rattle.lines.specs.Line.{operandsBy, lineBy}
-use Rattle.disasm.specs.Lines.{switchCheck}
+use Rattle.function.specs.Code.{switchCheck}
 use Rattle.graph.specs.Graph.{isStart, exits, after, level, firstExit, finding, reached, marked, bits, markList}
 use Rattle.steps.specs.Steps.{entriesSteps, instrSteps, stepsAt, walkGraph}
 use Rattle.jumps.specs.Jumps.{targetOf, targetCall}

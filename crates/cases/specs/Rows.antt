@@ -7,16 +7,17 @@ use Rattle.laws.specs.Ascii.{ascii}
 use Rattle.tables.specs.Layout.{layoutOf}
 use Rattle.decoder.specs.declared.Outcome.{Outcome}
 use Rattle.decoder.specs.declared.Decoded.{Decoded}
-use Rattle.decoder.specs.Instr.{blank}
+use Rattle.decoder.specs.Head.{blank}
 use Rattle.decoder.specs.Decode.{refusedAt}
 use Rattle.bytecode.specs.Decode.{decodeOne}
 use Rattle.lines.specs.Line.{View, lineText}
 use Rattle.targets.specs.Targets.{found}
-use Rattle.disasm.specs.Listing.{Files}
-use Rattle.jumps.specs.declared.Owner.the-variants as owner
+use Rattle.function.specs.Files.{Files}
+use Rattle.function.specs.declared.PoolObject.the-variants as object
 use Rattle.jumps.specs.declared.TargetAt.{TargetAt}
 use Rattle.jumps.specs.declared.TargetAt.the-variants as target-at
-use Rattle.jumps.specs.Jumps.{ownerPool, ownerElem, targetCall}
+use Rattle.function.specs.Pool.{lentPool, lentElem}
+use Rattle.jumps.specs.Jumps.{targetCall}
 use Rattle.walk.specs.declared.Walked.{Walked}
 use Rattle.walk.specs.declared.Walked.the-variants as walked-as
 use Rattle.walk.specs.Walk.{walkLent}
@@ -50,15 +51,15 @@ view code = record {
   names = record { types = types; runtime = []; intrinsic = [] };
   frame = layoutOf layout .frame;
   params = pos 1;
-  pooled = found (ownerPool files owner.Nothing);
-  elem = ownerElem files owner.Nothing;
+  pooled = found (lentPool files object.Nothing);
+  elem = lentElem files object.Nothing;
 }
 
 unfoldable pub told : Asked → Told
 told (decodes code at) = decoded (decodeOne opcodes types layout code at)
 told (lists code) = let d = decodeOne opcodes types layout code 0 in line (d .outcome) (lineText (view code) (d .instr))
-told (jumps code) = target (targetCall files owner.Nothing code 0)
-told (walks code marks) = walked (walkLent files owner.Nothing code (replicate marks 7))
+told (jumps code) = target (targetCall files object.Nothing code 0)
+told (walks code marks) = walked (walkLent files object.Nothing code (replicate marks 7))
 
 -- P1 to P12
 unfoldable pub asked : List Asked

@@ -16,7 +16,8 @@ use Rattle.laws.proofs.Scan.{first-shift}
 use Rattle.refusal.specs.declared.Refusal.{Refusal}
 use Rattle.refusal.specs.Check.{refusalAt}
 use Rattle.tables.specs.Records.{opByte, operandCount, width}
-use Rattle.operand.specs.Operand.{isList, isCounted, interpret, valueAt, operandAt}
+use Rattle.operand.specs.Operand.{isList, interpret}
+use Rattle.operand.specs.mirror.Step.{isCounted, valueAt, operandAt}
 use Rattle.operand.specs.declared.Operand.{Operand}
 use Rattle.operand.specs.declared.Step.the-variants.{Skip, Short, Read}
 use Rattle.decoder.specs.declared.OperandRecord.{OperandRecord}
@@ -24,7 +25,8 @@ use Rattle.decoder.specs.declared.Operands.{Operands}
 use Rattle.decoder.specs.declared.Outcome.{Outcome}
 use Rattle.decoder.specs.declared.Head.{Head}
 use Rattle.decoder.specs.declared.Decoded.{Decoded}
-use Rattle.decoder.specs.Instr.{blank, headAt, startOps, afterStep, stepOps, runOps, operandsAt, ofOps, ofHead, stepsAt}
+use Rattle.decoder.specs.mirror.Steps.{startOps, afterStep, stepOps, runOps, operandsAt, ofOps, ofHead, stepsAt}
+use Rattle.decoder.specs.Head.{blank, headAt}
 use Rattle.decoder.specs.Decode.{codesFrom, operandTypes, Part, own, count, partsFrom, partWidth, offsetOf, operandAtPart, operandsFrom, isShort, shortNumber, recordOf, recordsOf, instrOf, refusedAt, readParts, decodeHead, decodeAt}
 
 -- ---- lists of operands and their records

@@ -7,7 +7,7 @@ use mathlib.Core.Bool.{Bool, true, false, cond, not, _&&_, _||_}
 use lib.Dec.{eqb}
 use lib.ListN.{length}
 use lib.IntN.{ℤ, natAbs}
-use Rattle.tables.specs.Records.{opcodes, operandCount, typeCode, typeByte, prefixOp}
+use Rattle.tables.specs.Records.{opcodeCount, operandCount, typeCode, typeByte, prefixOp}
 use Rattle.operand.specs.declared.Operand.{Operand}
 use Rattle.operand.specs.declared.Operand.the-variants.{Reg, RegList, Imm, Idx, Flag8, Flag16, RuntimeId, IntrinsicId}
 use Rattle.decoder.specs.declared.Outcome.{Outcome}
@@ -62,7 +62,7 @@ pub record V8Form (b : Bytecodes) (ops types : List ℕ) (first op : ℕ) : Type
   pub wide : prefixOp ops 1 ≡ b .kWide
   pub extra : prefixOp ops 2 ≡ b .kExtraWide
   pub unbroken : (eqb first (b .kDebugBreakWide) || eqb first (b .kDebugBreakExtraWide)) ≡ false
-  pub known : op < opcodes ops
+  pub known : op < opcodeCount ops
   pub number : operandCount ops op ≡ length (b .operandTypes op)
   pub few : length (b .operandTypes op) ≤ 8
   pub typed : Typed ops types op 0 (b .operandTypes op)

@@ -14,8 +14,9 @@ use Rattle.decoder.specs.declared.Decoded.{Decoded}
 use Rattle.flow.specs.Flow.{flowOf}
 use Rattle.targets.specs.Targets.{jumpTable}
 use Rattle.lines.specs.Room.{lineRoom}
-use Rattle.disasm.specs.Lines.{tableCheck, linesRoom, Checked}
-use Rattle.disasm.proofs.Passing.{allOf, restOf, Going, going-start, going-refused, going-end, going-instrs, going-done}
+use Rattle.disasm.specs.mirror.Lines.{linesRoom, Checked}
+use Rattle.function.specs.Code.{tableCheck}
+use Rattle.function.proofs.Passing.{allOf, restOf, Going, going-start, going-refused, going-end, going-instrs, going-done}
 
 module _ (ops : List ℕ) (pooled : Bool) (d : ℕ → Decoded) (len : ℕ) where
   -- of the room for all lines and the header, done is counted

@@ -4,8 +4,6 @@ use mathlib.Core.Path.{_≡_, refl, sym, ap, _∙_}
 use mathlib.Core.List.{List, [], _∷_, _++_}
 use native.Mathlib.Omega.{arith}
 use borrow.Author.Tests.{le-leb, lt-leb}
-use types.Run.{OneOf, miss}
-use denote.Enum.Declared.{tagOf}
 use lib.ListN.{length, length-append}
 use Rattle.refusal.specs.declared.Refusal.{Refusal}
 use Rattle.refusal.specs.declared.Check.the-variants.{Ok, Refused}
@@ -13,7 +11,6 @@ use Rattle.refusal.specs.Check.{refusalAt}
 use Rattle.refusal.proofs.Laws.{or-left}
 use Rattle.text.proofs.Put.{fits, fits-then, refused-then}
 use Rattle.text.proofs.Texts.{digits-few}
-use Rattle.store.specs.declared.SlotValue.{SlotValue}
 use Rattle.header.specs.declared.Header.{Header}
 use Rattle.decoder.specs.declared.Instr.{Instr}
 use Rattle.decoder.specs.Listed.{Listing}
@@ -21,22 +18,15 @@ use Rattle.flow.specs.Flow.{flowOf}
 use Rattle.lines.specs.Line.{View}
 use Rattle.lines.proofs.Room.{signed-room, line-room}
 use Rattle.disasm.specs.declared.Pass.{Pass}
-use Rattle.disasm.specs.Lines.{linesText, linesRoom, codeCheck, Checked}
-use Rattle.disasm.specs.Listing.{headerText, poolBy, listView, ListedAs, Whole}
+use Rattle.function.specs.Code.{codeCheck}
+use Rattle.disasm.specs.Listing.{headerText, linesText, listView, ListedAs}
+use Rattle.disasm.specs.mirror.Lines.{linesRoom, Checked}
+use Rattle.disasm.specs.mirror.Listing.{Whole}
 use Rattle.store.proofs.SlotValue as value-type
 use Rattle.store.specs.declared.SlotValue.the-variants as value
 use Rattle.serializer.specs.declared.SlotAt.the-variants as slot-at
 use Rattle.targets.specs.declared.Pool.the-variants as pool
 use Rattle.disasm.specs.declared.Listed.the-variants as listed-as
-
-pub not-object : (objects : List ℕ) (v : SlotValue) → OneOf (0 ∷ 2 ∷ 3 ∷ 4 ∷ 5 ∷ []) (tagOf value-type.the-type v) → pool.Nothing ≡ poolBy objects (slot-at.At v)
-unfolding poolBy
-not-object objects value.Other h = refl
-not-object objects (value.Object n) h = absurd (miss (0 ∷ 2 ∷ 3 ∷ 4 ∷ 5 ∷ []) 1 tt h)
-not-object objects value.Root h = refl
-not-object objects value.OtherRef h = refl
-not-object objects (value.Raw r) h = refl
-not-object objects (value.Repeat r) h = refl
 
 none-of : (u : List ℕ) → length u ≡ 0 → u ≡ []
 none-of [] h = refl

@@ -5,14 +5,10 @@ use header::Header;
 use header::HeaderAt;
 use refusal::Check;
 use refusal::Refusal;
-use serializer::SlotAt;
 use store::Object;
-use store::SlotValue;
 use tables::Frame;
 use tables::Layout;
 use targets::Pool;
-use targets::PoolSlots;
-use targets::Table;
 ghost use mathlib.Core.Path.{_≡_};
 ghost use Prim.Native.Nat.{suc};
 ghost use Rattle.refusal.specs.Check.{orElse};
@@ -21,10 +17,12 @@ ghost use Rattle.decoder.specs.Listed.{listFrom};
 ghost use Rattle.decoder.specs.Decode.{decodeAt};
 ghost use lib.ListN.{length};
 ghost use Rattle.flow.specs.Flow.{Numbered};
-ghost use Rattle.targets.specs.Targets.{poolSearched, found};
+ghost use Rattle.targets.specs.Targets.{found};
+ghost use Rattle.targets.specs.mirror.Search.{poolSearched};
 ghost use Rattle.lines.specs.Line.{lineText};
-ghost use Rattle.disasm.specs.Lines.{tableCheck, Passed, Checked};
-ghost use Rattle.disasm.specs.Listing.{headerText, poolBy, listView, listWith, ListedAs, Whole, checkFiles, listSearched, listCall};
+ghost use Rattle.disasm.specs.Listing.{headerText, listView, ListedAs, listCall};
+ghost use Rattle.disasm.specs.mirror.Lines.{Passed, Checked};
+ghost use Rattle.disasm.specs.mirror.Listing.{listWith, Whole, listSearched};
 
 // The answer to a request for a listing: its length, or a refusal.
 pub enum Listed {
@@ -54,7 +52,7 @@ pub fn list(
 ) -> Listed
     ensures { λ r. ⌜ ListedAs (listCall (record { opcodes = now (opcodes .entry); types = now (types .entry); runtime = now (runtime .entry); intrinsic = now (intrinsic .entry); layout = now (layout .entry); objects = now (objects .entry); slots = now (slots .entry); payload = now (payload .entry) }) object (now (out .entry))) r (now (out .exit)) ⌝ }
 {
-    let check = check_files(
+    let check = function::check_files(
         opcodes,
         types,
         runtime,
@@ -82,28 +80,6 @@ pub fn list(
     }
 }
 
-// Rows 1 to 8.
-pub fn check_files(
-    opcodes: &[u8],
-    types: &[u8],
-    runtime: &[u8],
-    intrinsic: &[u8],
-    layout: &[u8],
-    objects: &[u8],
-    slots: &[u8],
-    payload: &[u8],
-    object: usize,
-) -> Check
-    ensures { λ r. ⌜ r ≡ checkFiles (record { opcodes = now (opcodes .entry); types = now (types .entry); runtime = now (runtime .entry); intrinsic = now (intrinsic .entry); layout = now (layout .entry); objects = now (objects .entry); slots = now (slots .entry); payload = now (payload .entry) }) object ⌝ }
-{
-    let table = tables::check_table(opcodes, types, runtime, intrinsic, layout);
-    let files = refusal::or_else(
-        store::check_store(objects, slots, payload),
-        store::check_code_object(objects, object),
-    );
-    refusal::or_else(table, files)
-}
-
 // The listing of an object whose files are good.
 fn list_object(
     out: &mut [u8],
@@ -123,10 +99,7 @@ fn list_object(
     match header::header_of(slots, payload, object, shape) {
         HeaderAt::Refused(refusal) => Listed::Refused(refusal),
         HeaderAt::At(h) => {
-            let pool = pool_by(
-                objects,
-                serializer::find_slot(slots, object.first, object.count, shape.pool_slot as u64),
-            );
+            let pool = function::pool_of(objects, slots, shape, object);
             list_header(
                 out,
                 opcodes,
@@ -141,23 +114,6 @@ fn list_object(
             )
         }
     }
-}
-
-// The pool that a slot refers to.
-pub fn pool_by(objects: &[u8], found: SlotAt) -> Pool
-    ensures { λ r. ⌜ r ≡ poolBy (now (objects .entry)) found ⌝ }
-{
-    let SlotAt::At(value) = found else {
-        return Pool::Nothing;
-    };
-    let SlotValue::Object(n) = value else {
-        return Pool::Nothing;
-    };
-    let object = store::object_of(objects, n as usize);
-    Pool::At(PoolSlots {
-        first: object.first,
-        count: object.count,
-    })
 }
 
 // The listing of a header and its code.
@@ -443,7 +399,7 @@ fn put_lines(
             Outcome::Done => {
                 let flow = flow::flow_by(words::byte_at(flows, instr.opcode as usize));
                 let table = targets::jump_table(pool, flow, instr);
-                check = refusal::or_else(check, table_check(table, instr.offset));
+                check = refusal::or_else(check, function::table_check(table, instr.offset));
                 let q = text::least(p, out.len());
                 let w = lines::put_line(
                     &mut out[q..],
@@ -501,25 +457,11 @@ fn check_lines(
             Outcome::Done => {
                 let flow = flow::flow_by(words::byte_at(flows, instr.opcode as usize));
                 let table = targets::jump_table(pool, flow, instr);
-                check = refusal::or_else(check, table_check(table, instr.offset));
+                check = refusal::or_else(check, function::table_check(table, instr.offset));
                 p = text::plus(p, lines::line_room(flow, instr, table));
                 i = instr.end;
             }
         }
     }
     Pass { check, place: p }
-}
-
-// Number 16 at the instruction's start.
-pub fn table_check(table: Table, at: usize) -> Check
-    ensures { λ r. ⌜ r ≡ tableCheck table at ⌝ }
-{
-    match table {
-        Table::Nothing => Check::Ok,
-        Table::At(_) => Check::Ok,
-        Table::Refused => Check::Refused(Refusal {
-            number: 16,
-            place: at,
-        }),
-    }
 }

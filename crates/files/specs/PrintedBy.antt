@@ -1,7 +1,7 @@
 -- What each of the two programs prints.
 use Prim.Native.Nat.{ℕ}
 use mathlib.Core.List.{List}
-use Rattle.disasm.specs.Listing.{Files}
+use Rattle.function.specs.Files.{Files}
 use Rattle.program.specs.Printed.{shown, walkShown}
 use Rattle.files.specs.declared.Program.{Program}
 use Rattle.files.specs.declared.Program.the-variants as program

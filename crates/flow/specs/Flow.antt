@@ -1,5 +1,5 @@
 -- What an instruction does with the flow of control, by its plain name.
-use Prim.Native.Nat.{ℕ, _*_, _<_}
+use Prim.Native.Nat.{ℕ, _<_}
 use mathlib.Core.Path.{_≡_}
 use mathlib.Core.List.{List, [], _∷_, _++_}
 use mathlib.Core.Bool.{Bool, true, false}
@@ -7,6 +7,7 @@ use lib.ListN.{getD, replicate}
 use Rattle.laws.specs.Ascii.{ascii}
 use Rattle.laws.specs.Scan.{firstFrom}
 use Rattle.tables.specs.Names.{isNamed}
+use Rattle.tables.specs.Records.{opcodeNameSize, opcodeStart}
 use Rattle.flow.specs.declared.Kind.{Kind}
 use Rattle.flow.specs.declared.Kind.the-variants.{On, Ends, Jumps, Branches, JumpsBack, Switch}
 use Rattle.flow.specs.declared.Flow.{Flow}
@@ -42,16 +43,16 @@ flowNames = endNames ++ jumpNames ++ branchNames ++ constantNames ++ switchNames
 abbrev pub plain : Kind → Bool → Flow
 plain kind pool = record { kind = kind; pool = pool; first = 0; base = false }
 
--- the flow of each of these names
+-- the flow of each of these names; a switch reads its table, no distance, from the pool
 unfoldable pub flows : List Flow
 flows =
     replicate 5 (plain Ends false)
     ++ (plain Jumps false ∷ plain Jumps true ∷ plain JumpsBack false ∷ plain JumpsBack true ∷ [])
     ++ replicate 13 (plain Branches false) ++ replicate 13 (plain Branches true)
-    ++ (record { kind = Switch; pool = true; first = 0; base = true } ∷ record { kind = Switch; pool = true; first = 1; base = false } ∷ [])
+    ++ (record { kind = Switch; pool = false; first = 0; base = true } ∷ record { kind = Switch; pool = false; first = 1; base = false } ∷ [])
 
 abbrev pub hasFlowName : List ℕ → ℕ → ℕ → Bool
-hasFlowName ops at k = isNamed ops at 40 (getD flowNames k [])
+hasFlowName ops at k = isNamed ops at opcodeNameSize (getD flowNames k [])
 
 -- the number of the name of the opcode record at place at, 37 where it is none of these
 unfoldable pub flowNumber : List ℕ → ℕ → ℕ
@@ -63,8 +64,8 @@ flowBy k = getD flows k (plain On false)
 
 -- the flow of an opcode
 abbrev pub flowOf : List ℕ → ℕ → Flow
-flowOf ops op = flowBy (flowNumber ops (op * 64))
+flowOf ops op = flowBy (flowNumber ops (opcodeStart op))
 
 -- the first n entries of a table are the numbers of the first n opcodes
 abbrev pub Numbered : List ℕ → List ℕ → ℕ → Type 0
-Numbered ops table n = (op : ℕ) → op < n → getD table op 0 ≡ flowNumber ops (op * 64)
+Numbered ops table n = (op : ℕ) → op < n → getD table op 0 ≡ flowNumber ops (opcodeStart op)

@@ -41,7 +41,7 @@ line-leaves = refl
 -- and so no walk leaves in fewer steps
 line-good : Good line
 unfolding line isStart
-line-good = record { at-zero = refl; rising = omega arith }
+line-good = record { rising = omega arith }
 
 line-claim : Leaves line 3 2
 line-claim = claim-is line-good (leaves 3 2) .1 (ap (λ (r : Result). r .found) (sym line-leaves))
@@ -61,3 +61,11 @@ behind = graph (0 ∷ 1 ∷ []) ([] ∷ (NoTarget ∷ []) ∷ [])
 behind-closed : result behind 2 ≡ record { found = closed; marks = 1 ∷ 0 ∷ [] }
 unfolding behind firstFrom isStart exits after level firstExit finding reached marked bits markList
 behind-closed = refl
+
+-- no instruction at all: closed, and no mark
+empty : Graph
+empty = graph [] []
+
+empty-closed : result empty 0 ≡ record { found = closed; marks = [] }
+unfolding empty firstFrom isStart exits after level firstExit finding reached marked bits markList
+empty-closed = refl

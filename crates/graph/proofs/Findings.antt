@@ -23,7 +23,7 @@ leavesAt g m = any (exits g) (level g m)
 module _ {g : Graph} (G : Good g) where
   -- a walk that leaves is seen at its level
   seen : {m o : ℕ} → Reach g m o → Exits g o → leavesAt g m ≡ true
-  seen {m} {o} r x = elem-any (exits g) o (level g m) (level-complete G r) (exits-complete x)
+  seen {m} {o} r x = elem-any (exits g) o (level g m) (level-complete r) (exits-complete x)
 
   -- none is seen before the first
   early : {m o : ℕ} → Reach g m o → Exits g o → m < firstExit g → ⊥
@@ -31,7 +31,7 @@ module _ {g : Graph} (G : Good g) where
   early {m} r x l = clash (seen r x) (first-before (leavesAt g) 0 (bound g) m (omega arith) l)
 
   never : {n o : ℕ} → bound g ≤ firstExit g → Leaving g n o → ⊥
-  never b (leave r x) = let k = bounded G r in early (k .2) x (omega arith)
+  never b (leave r x) = let k = bounded r in early (k .2) x (omega arith)
 
   soonest : {t p : ℕ} → Leaving g t p → suc (firstExit g) ≤ t
   soonest (leave {m = k} r x) = ⊎-elim (λ h. absurd (early r x h)) (λ h. suc-le-suc h) (under? k (firstExit g))
@@ -39,7 +39,7 @@ module _ {g : Graph} (G : Good g) where
   lowest : {t p : ℕ} → Leaving g t p → t ≡ suc (firstExit g) → first (exits g) (level g (firstExit g)) ≤ p
   lowest (leave {m = k} {o = p} r x) e =
       let h : k ≡ firstExit g = omega arith in
-      first-lowest (exits g) 0 p (level g (firstExit g)) (level-rises G (firstExit g)) (level-complete G (subst (λ (i : ℕ). Reach g i p) h r)) (exits-complete x)
+      first-lowest (exits g) 0 p (level g (firstExit g)) (level-rises G (firstExit g)) (level-complete (subst (λ (i : ℕ). Reach g i p) h r)) (exits-complete x)
 
   passes : firstExit g < bound g → leavesAt g (firstExit g) ≡ true
   unfolding firstExit

@@ -7,20 +7,20 @@ use mathlib.Core.Logic.{_↔_}
 use native.Mathlib.Omega.{arith}
 use lib.ListN.{length, getD}
 use lib.Seq.{ext-getD}
-use Rattle.graph.specs.Graph.{Graph, Good, Reach, Finding, marked, bits, markList}
+use Rattle.graph.specs.Graph.{Graph, Reach, Finding, marked, bits}
 use Rattle.graph.specs.Graph.Finding.{closed, leaves}
-use Rattle.graph.specs.Right.{Marked}
+use Rattle.graph.specs.mirror.Right.{Marked}
 use Rattle.graph.proofs.Levels.{reached-sound, reached-complete}
 use Rattle.graph.proofs.Bound.{bounded}
 
-module _ {g : Graph} (G : Good g) (p : ℕ) where
+module _ (g : Graph) (p : ℕ) where
   pub marked-closed : (marked g closed p ≡ true) ↔ ((m : ℕ) × Reach g m p)
   unfolding marked
-  marked-closed = (λ e. let x = reached-sound g _ p e in (x .0, x .2), λ x. let y = bounded G (x .1) in reached-complete G _ (y .1) (y .2))
+  marked-closed = (λ e. let x = reached-sound g _ p e in (x .0, x .2), λ x. let y = bounded (x .1) in reached-complete _ (y .1) (y .2))
 
   pub marked-leaves : (n o : ℕ) → (marked g (leaves n o) p ≡ true) ↔ ((m : ℕ) × (m < n) × Reach g m p)
   unfolding marked
-  marked-leaves n o = (λ e. reached-sound g n p e, λ x. reached-complete G n (x .1) (x .2))
+  marked-leaves n o = (λ e. reached-sound g n p e, λ x. reached-complete n (x .1) (x .2))
 
   pub marked-is : (f : Finding) → (marked g f p ≡ true) ↔ Marked g f p
   marked-is closed = marked-closed
@@ -44,7 +44,3 @@ bits-at p n k h = bits-from p 0 n k h ∙ ap (λ (j : ℕ). cond (p j) 1 0) (ome
 -- a list with the bits of p at its n places
 pub bits-are : (p : ℕ → Bool) (n : ℕ) (M : List ℕ) → length M ≡ n → ((k : ℕ) → k < n → getD M k 0 ≡ cond (p k) 1 0) → M ≡ bits p 0 n
 bits-are p n M len all = ext-getD 0 M (bits p 0 n) (len ∙ sym (bits-length p 0 n)) (λ k h. all k (omega arith) ∙ sym (bits-at p n k (omega arith)))
-
-pub marks-length : (g : Graph) (f : Finding) (n : ℕ) → length (markList g f n) ≡ n
-unfolding markList
-marks-length g f n = bits-length (marked g f) 0 n

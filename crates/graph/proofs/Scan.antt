@@ -12,7 +12,7 @@ use lib.ListN.{getD}
 use borrow.Author.Tests.{leb-true, leb-false}
 use Rattle.laws.proofs.Tests.{clash, under?}
 use Rattle.graph.specs.Graph.{Graph, Succ, exits}
-use Rattle.graph.specs.Queue.{Grown, SuccIn, LowestAt, Lowest, lowerOf}
+use Rattle.graph.specs.mirror.Queue.{Grown, SuccIn, LowestAt, Lowest, lowerOf}
 use Rattle.graph.proofs.Queues.{grown-join}
 
 module _ (g : Graph) (q : List ℕ) (lo i : ℕ) where

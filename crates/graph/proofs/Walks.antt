@@ -8,11 +8,11 @@ use native.Mathlib.Numerals.{add-one}
 use native.Mathlib.Omega.{arith}
 use lib.ListN.{getD}
 use Rattle.laws.proofs.Tests.{clash, under?}
-use Rattle.graph.specs.Graph.{Graph, Succ, Reach, Leaving, exits}
+use Rattle.graph.specs.Graph.{Graph, isStart, Succ, Reach, Leaving, exits}
 use Rattle.graph.specs.Graph.Reach.{here, next}
 use Rattle.graph.specs.Graph.Leaving.{leave}
-use Rattle.graph.specs.Queue.{In, Held, Grown, SuccIn, Quiet, LowestAt}
-use Rattle.graph.specs.Right.{IsClosed, IsLeaving}
+use Rattle.graph.specs.mirror.Queue.{In, Held, Grown, SuccIn, Quiet, LowestAt}
+use Rattle.graph.specs.mirror.Right.{IsClosed, IsLeaving}
 use Rattle.graph.proofs.Levels.{exits-sound, exits-complete}
 use Rattle.graph.proofs.Queues.{In-kept, mark-of}
 
@@ -29,16 +29,16 @@ pub record Level (g : Graph) (M q : List ℕ) (lo hi d : ℕ) : Type 0 where
 
 -- a walk of no step is at 0
 at-start : {g : Graph} {m p : ℕ} → Reach g m p → m ≤ 0 → p ≡ 0
-at-start here h = refl
+at-start (here z) h = refl
 at-start (next r s) h = absurd (omega arith)
 
-pub level-start : {g : Graph} {q₀ M q : List ℕ} {k : ℕ} → Grown q₀ 0 M q k (λ p. p ≡ 0) → Level g M q 0 k 0
-level-start {g} G = record {
+pub level-start : {g : Graph} {q₀ M q : List ℕ} {k : ℕ} → isStart g 0 ≡ true → Grown q₀ 0 M q k (λ p. p ≡ 0) → Level g M q 0 k 0
+level-start {g} z G = record {
   held = G .held;
   order = zero-le;
   depth = zero-le;
   past = λ i l. absurd (omega arith);
-  present = λ i l u. subst (Reach g 0) (sym (G .new i l u)) here;
+  present = λ i l u. subst (Reach g 0) (sym (G .new i l u)) (here z);
   closed = λ i t l s. absurd (omega arith);
   all = λ m p r h. G .all p (at-start r h);
   quiet = λ m p r h. absurd (omega arith);
@@ -58,7 +58,7 @@ module _ {g : Graph} {M q : List ℕ} {lo hi d : ℕ} (L : Level g M q lo hi d) 
     onward i t l s = ⊎-elim (λ h. In-kept (G .kept) (G .more) (L .closed i t h s)) (λ h. G .all t (i, h, l, s)) (under? i lo)
 
     all-next : {m p : ℕ} → Reach g m p → m ≤ suc d → In q′ e p
-    all-next here h = In-kept (G .kept) (G .more) (L .all 0 0 here zero-le)
+    all-next (here z) h = In-kept (G .kept) (G .more) (L .all 0 0 (here z) zero-le)
     all-next (next {m = m} {o = o} {t = t} r s) h =
         let y = L .all m o r (omega arith) in onward (y .at) t (y .below) (subst (λ (x : ℕ). Succ g x t) (sym (y .is)) s)
 
@@ -106,7 +106,7 @@ module _ {g : Graph} {M q : List ℕ} {lo hi d : ℕ} (L : Level g M q lo hi d) 
 
   module _ (done : hi ≤ lo) where
     closing : {m p : ℕ} → Reach g m p → In q hi p
-    closing here = L .all 0 0 here zero-le
+    closing (here z) = L .all 0 0 (here z) zero-le
     closing (next {m = m} {o = o} {t = t} r s) =
         let y = closing r in L .closed (y .at) t (omega arith) (subst (λ (x : ℕ). Succ g x t) (sym (y .is)) s)
 

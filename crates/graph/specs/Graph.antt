@@ -29,9 +29,8 @@ abbrev pub Rising : ℕ → List ℕ → Type 0
 Rising a [] = Unit {0}
 Rising a (x ∷ xs) = (a ≤ x) × Rising (suc x) xs
 
--- "Listed instructions are decoded from byte 0 of non-empty code, each where the last ended": one starts at 0, and the starts rise strictly
+-- "Listed instructions are decoded from byte 0 .., each where the last ended": the starts rise strictly
 pub record Good (g : Graph) : Type 0 where
-  pub at-zero : isStart g 0 ≡ true
   pub rising : Rising 0 (g .starts)
 
 -- ---- walks
@@ -40,9 +39,16 @@ abbrev pub stepLeaves : Graph → Step → Bool
 stepLeaves g (To t) = not (isStart g t)
 stepLeaves g NoTarget = true
 
+-- whether a step goes to t
+abbrev pub isTo : ℕ → Step → Bool
+isTo t (To u) = eqb t u
+isTo t NoTarget = false
+
 -- some step from o goes to t, and does not leave
 pub record Succ (g : Graph) (o t : ℕ) : Type 0 where
-  pub step : Among (To t) (g .steps o)
+  pub step : Step
+  pub among : Among step (g .steps o)
+  pub goes : isTo t step ≡ true
   pub start : isStart g t ≡ true
 
 -- some step from o leaves
@@ -52,9 +58,9 @@ pub record Exits (g : Graph) (o : ℕ) : Type 0 where
   pub leaves : stepLeaves g step ≡ true
 
 -- "A walk is any list of steps, also the empty one, starting at byte 0, each from the listed instruction where it then stands".
--- "An offset is reached in m steps if a walk of m steps, none leaving, ends there."
+-- "An offset is reached in m steps if a walk of m steps, none leaving, ends there." Where no instruction starts at byte 0 nothing is reached.
 pub data Reach (g : Graph) : ℕ → ℕ → Type 0 where
-  here : Reach g 0 0
+  here : isStart g 0 ≡ true → Reach g 0 0
   next : {m o t : ℕ} → Reach g m o → Succ g o t → Reach g (suc m) t
 
 -- a walk of n steps that leaves from o: "one that leaves is its last. Its count is all its steps, the leaving one too."
@@ -84,10 +90,6 @@ Claim g (leaves n o) = Leaves g n o
 -- whether some step from o leaves
 unfoldable pub exits : Graph → ℕ → Bool
 exits g o = any (stepLeaves g) (g .steps o)
-
-abbrev pub isTo : ℕ → Step → Bool
-isTo t (To u) = eqb t u
-isTo t NoTarget = false
 
 -- the starts to which some step of some offset of l goes
 unfoldable pub after : Graph → List ℕ → List ℕ

@@ -1,4 +1,3 @@
 pub mod Lists
 pub mod Graph
-pub mod Right
-pub mod Queue
+pub mod mirror

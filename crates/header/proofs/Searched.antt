@@ -10,16 +10,19 @@ use Rattle.refusal.specs.declared.Check.the-variants.{Ok}
 use Rattle.refusal.proofs.Laws.{or-left, or-right}
 use Rattle.store.specs.declared.Object.{Object}
 use Rattle.store.specs.Records.{objectOf, objectCount}
-use Rattle.store.specs.Check.{checkStore, checkCodeObject, Ordered}
+use Rattle.store.specs.Check.{checkStore, checkCodeObject}
+use Rattle.store.specs.mirror.Ordered.{Ordered}
 use Rattle.store.proofs.Good.{good-code-object}
 use Rattle.serializer.specs.declared.RawAt.{RawAt}
-use Rattle.serializer.specs.Field.{rawAt, rawSearched}
+use Rattle.serializer.specs.Field.{rawAt}
+use Rattle.serializer.specs.mirror.Search.{rawSearched}
 use Rattle.serializer.specs.Calls.{checkAt}
 use Rattle.serializer.proofs.Searched.{raw-searched}
 use Rattle.serializer.proofs.Checked.{check-ordered}
 use Rattle.tables.specs.declared.Layout.{Layout}
 use Rattle.tables.specs.Check.{checkLayoutFile}
-use Rattle.header.specs.Header.{headerBy, headerOf, headerSearched, rtFor}
+use Rattle.header.specs.Header.{headerBy, headerOf, rtFor}
+use Rattle.header.specs.mirror.Header.{headerSearched}
 use Rattle.header.specs.Slots.{smiBy, fieldNum}
 use Rattle.header.specs.Calls.{checkCode, checkHeader}
 

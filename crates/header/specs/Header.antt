@@ -17,7 +17,7 @@ use Rattle.serializer.specs.declared.Smi.the-variants as smi
 use Rattle.serializer.specs.declared.RawAt.{RawAt}
 use Rattle.serializer.specs.declared.RawAt.the-variants as raw-at
 use Rattle.serializer.specs.declared.Span.{Span}
-use Rattle.serializer.specs.Field.{rawAt, rawSearched}
+use Rattle.serializer.specs.Field.{rawAt}
 use Rattle.serializer.specs.Length.{smiField}
 use Rattle.serializer.specs.Offset.{rtOff}
 use Rattle.tables.specs.declared.Field.{Field}
@@ -89,10 +89,3 @@ rtFor s o l = rtOff s (o .first) (o .count) (l .«tagged_size») (l .unit)
 
 abbrev pub headerOf : List ℕ → List ℕ → Object → Layout → HeaderAt
 headerOf s payload o l = headerBy payload (rawAt s (o .first) (o .count) (l .«tagged_size»)) (rtFor s o l) l
-
--- the same by the search that the code makes
-abbrev pub rawFor : List ℕ → Object → Layout → ℕ → ℕ → RawAt
-rawFor s o l = rawSearched s (o .first) (o .count) (l .«tagged_size»)
-
-abbrev pub headerSearched : List ℕ → List ℕ → Object → Layout → HeaderAt
-headerSearched s payload o l = headerBy payload (rawFor s o l) (rtFor s o l) l

@@ -11,10 +11,11 @@ use tables::Field;
 use tables::Layout;
 ghost use mathlib.Core.Path.{_≡_};
 ghost use mathlib.Core.Bool.{false};
-ghost use Rattle.serializer.specs.Field.{rawSearched};
+ghost use Rattle.serializer.specs.mirror.Search.{rawSearched};
 ghost use Rattle.serializer.specs.Length.{smiField};
 ghost use Rattle.serializer.specs.Calls.{checkAt};
-ghost use Rattle.header.specs.Header.{lengthOff, orZero, lengthBy, lengthOk, fieldBy, numberAt, paramCount, codeAt, headerWith, rtFor, rawFor, headerSearched};
+ghost use Rattle.header.specs.Header.{lengthOff, orZero, lengthBy, lengthOk, fieldBy, numberAt, paramCount, codeAt, headerWith, rtFor};
+ghost use Rattle.header.specs.mirror.Header.{rawFor, headerSearched};
 ghost use Rattle.header.specs.Slots.{slotBy, untested, smiRaw, smiBy, plainNum, smiNum, numBy, fieldNum};
 ghost use Rattle.header.specs.Calls.{checkCode, checkHeader, headerCall, smiCall, numCall};
 

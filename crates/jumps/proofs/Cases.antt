@@ -18,21 +18,22 @@ use Rattle.tables.specs.Records.{width, prefixOp, typeNames, nameFits, sizeGood
 use Rattle.tables.specs.Layout.{ranges, rangeOf, layoutOf}
 use Rattle.tables.specs.Check.{wholeRecords, checkTable}
 use Rattle.operand.specs.Operand.{kinds, kindOf, ofKind, interpret, isList}
-use Rattle.decoder.specs.Instr.{headAt}
+use Rattle.decoder.specs.Head.{headAt}
 use Rattle.decoder.specs.Decode.{partsFrom, readParts, decodeAt}
 use Rattle.sample.specs.Sample.{padded, opcode, typed, opcodes, types, four, fours, layout}
 use Rattle.flow.specs.Flow.{flowNames, flows, flowNumber, flowBy}
 use Rattle.targets.specs.Targets.{poolElem, operandOf, indexOf, numberOf, distanceBy, jumpTarget, jumpTable, tableBy, sizedBy, entryAt}
-use Rattle.disasm.specs.Listing.{Files, poolBy}
+use Rattle.function.specs.Files.{Files}
+use Rattle.function.specs.Pool.{poolBy}
 use Rattle.jumps.specs.Jumps.{targetOf, targetCall, tableOf, tableCall, entryCall}
-use Rattle.jumps.specs.declared.Owner.the-variants as owner
+use Rattle.function.specs.declared.PoolObject.the-variants as object
 use Rattle.jumps.specs.declared.TargetAt.the-variants as target-at
 use Rattle.jumps.specs.declared.TableAt.the-variants as table-at
 use Rattle.jumps.specs.declared.EntryAnswer.the-variants as entry-answer
 
 -- an object of kind 0, by its first slot and their count
-abbrev object : ℕ → ℕ → List ℕ
-object first count = 0 ∷ 0 ∷ 0 ∷ 0 ∷ four first ++ four count ++ four 0
+abbrev objectRecord : ℕ → ℕ → List ℕ
+objectRecord first count = 0 ∷ 0 ∷ 0 ∷ 0 ∷ four first ++ four count ++ four 0
 
 -- a slot, by its index, kind, number and length
 abbrev slot : ℕ → ℕ → ℕ → ℕ → List ℕ
@@ -46,19 +47,19 @@ files ops = record {
   runtime = [];
   intrinsic = [];
   layout = layout;
-  objects = object 0 1 ++ object 1 2;
+  objects = objectRecord 0 1 ++ objectRecord 1 2;
   slots = slot 2 1 1 0 ++ slot 2 4 0 8 ++ slot 3 1 0 0;
   payload = four 0 ++ four 4;
 }
 
 -- P9; the code's end and a place beyond it; a constant jump without and with a pool; an object that is not there
 pub target-cases :
-    (targetCall (files opcodes) owner.Nothing (0x07 ∷ 0x03 ∷ 0x00 ∷ []) 0
-    ∷ targetCall (files opcodes) owner.Nothing (0x02 ∷ []) 1
-    ∷ targetCall (files opcodes) owner.Nothing (0x02 ∷ []) 2
-    ∷ targetCall (files opcodes) owner.Nothing (0x08 ∷ 0x00 ∷ []) 0
-    ∷ targetCall (files opcodes) (owner.Object 0) (0x08 ∷ 0x00 ∷ []) 0
-    ∷ targetCall (files opcodes) (owner.Object 2) (0x08 ∷ 0x00 ∷ []) 0
+    (targetCall (files opcodes) object.Nothing (0x07 ∷ 0x03 ∷ 0x00 ∷ []) 0
+    ∷ targetCall (files opcodes) object.Nothing (0x02 ∷ []) 1
+    ∷ targetCall (files opcodes) object.Nothing (0x02 ∷ []) 2
+    ∷ targetCall (files opcodes) object.Nothing (0x08 ∷ 0x00 ∷ []) 0
+    ∷ targetCall (files opcodes) (object.Object 0) (0x08 ∷ 0x00 ∷ []) 0
+    ∷ targetCall (files opcodes) (object.Object 2) (0x08 ∷ 0x00 ∷ []) 0
     ∷ [])
     ≡ (target-at.At 18446744073709551613 ∷ target-at.End ∷ target-at.Refused (refusalAt 20 2) ∷ target-at.Nothing ∷ target-at.At 4
     ∷ target-at.Refused (refusalAt 8 0) ∷ [])
@@ -73,8 +74,8 @@ abbrev switch : List ℕ
 switch = 0x09 ∷ 0x00 ∷ 0x02 ∷ 0x05 ∷ 0x0b ∷ []
 
 pub table-cases :
-    (tableCall (files opcodes) (owner.Object 0) switch 0
-    ∷ tableCall (files opcodes) owner.Nothing switch 0
+    (tableCall (files opcodes) (object.Object 0) switch 0
+    ∷ tableCall (files opcodes) object.Nothing switch 0
     ∷ [])
     ≡ (table-at.At (record { start = 0; count = 2; base = pos 5 }) ∷ table-at.Nothing ∷ [])
 unfolding tableCall tableOf opcodes opcode typed types padded four fours layout checkTable wholeRecords within firstFrom nameOk opcodeOk sizeFits sizeGood nameFits isNamed typeNames
@@ -85,12 +86,12 @@ table-cases = refl
 
 -- its entries: one shown, the reference, none; without its pool; what is no switch; the code's end
 pub entry-cases :
-    (entryCall (files opcodes) (owner.Object 0) switch 0 0
-    ∷ entryCall (files opcodes) (owner.Object 0) switch 0 1
-    ∷ entryCall (files opcodes) (owner.Object 0) switch 0 2
-    ∷ entryCall (files opcodes) owner.Nothing switch 0 0
-    ∷ entryCall (files opcodes) (owner.Object 0) switch 4 0
-    ∷ entryCall (files opcodes) (owner.Object 0) switch 5 0
+    (entryCall (files opcodes) (object.Object 0) switch 0 0
+    ∷ entryCall (files opcodes) (object.Object 0) switch 0 1
+    ∷ entryCall (files opcodes) (object.Object 0) switch 0 2
+    ∷ entryCall (files opcodes) object.Nothing switch 0 0
+    ∷ entryCall (files opcodes) (object.Object 0) switch 4 0
+    ∷ entryCall (files opcodes) (object.Object 0) switch 5 0
     ∷ [])
     ≡ (entry-answer.Shown (pos 5) 4 ∷ entry-answer.Skipped ∷ entry-answer.Beyond ∷ entry-answer.Nothing ∷ entry-answer.Nothing ∷ entry-answer.End ∷ [])
 unfolding entryCall tableCall tableOf opcodes opcode typed types padded four fours layout checkTable wholeRecords within firstFrom nameOk opcodeOk sizeFits sizeGood nameFits isNamed typeNames
@@ -106,14 +107,14 @@ signedSwitch = opcode "SwitchOnSmiNoFeedback" 0 (10 ∷ 9 ∷ 9 ∷ [])
 abbrev twoSwitches : List ℕ
 twoSwitches = 0x00 ∷ 0x00 ∷ 0x01 ∷ 0x05 ∷ 0x00 ∷ 0x00 ∷ 0xff ∷ 0x05 ∷ []
 
-pub sixteen-case : tableCall (files signedSwitch) (owner.Object 0) twoSwitches 4 ≡ table-at.Refused (refusalAt 16 4)
+pub sixteen-case : tableCall (files signedSwitch) (object.Object 0) twoSwitches 4 ≡ table-at.Refused (refusalAt 16 4)
 unfolding tableCall tableOf opcode typed types padded four fours layout checkTable wholeRecords within firstFrom nameOk opcodeOk sizeFits sizeGood nameFits isNamed typeNames
     ranges rangeOf leAt checkStore sizesOk objectOk slotOk valueOk fieldsOk falls fallsIn objectOf slotOf layoutOf poolBy slotAt decodeAt headAt
     prefixOp readParts partsFrom width isList kinds kindOf ofKind interpret modulo wrap32 signed nameAt flowNames flows flowNumber flowBy operandOf indexOf
     numberOf jumpTable tableBy sizedBy
 sixteen-case = refl
 
-pub sixteen-target : targetCall (files signedSwitch) (owner.Object 0) twoSwitches 4 ≡ target-at.Nothing
+pub sixteen-target : targetCall (files signedSwitch) (object.Object 0) twoSwitches 4 ≡ target-at.Nothing
 unfolding targetCall targetOf opcode typed types padded four fours layout checkTable wholeRecords within firstFrom nameOk opcodeOk sizeFits sizeGood nameFits isNamed typeNames
     ranges rangeOf leAt checkStore sizesOk objectOk slotOk valueOk fieldsOk falls fallsIn objectOf slotOf layoutOf poolBy slotAt decodeAt headAt
     prefixOp readParts partsFrom width isList kinds kindOf ofKind interpret modulo wrap32 signed nameAt flowNames flows flowNumber flowBy jumpTarget

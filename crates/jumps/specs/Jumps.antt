@@ -6,21 +6,11 @@ use mathlib.Core.List.{List}
 use lib.Dec.{ltb}
 use Rattle.refusal.specs.declared.Check.{Check}
 use Rattle.refusal.specs.declared.Check.the-variants.{Ok, Refused}
-use Rattle.refusal.specs.Check.{refusalAt, orElse}
-use Rattle.store.specs.Records.{objectOf}
-use Rattle.store.specs.Check.{checkStore, checkObject}
+use Rattle.refusal.specs.Check.{refusalAt}
 use Rattle.serializer.specs.declared.Elem.{Elem}
-use Rattle.serializer.specs.Slots.{slotSearched}
-use Rattle.tables.specs.declared.Layout.{Layout}
-use Rattle.tables.specs.Layout.{signedValue, layoutOf}
-use Rattle.tables.specs.Check.{checkTable}
 use Rattle.decoder.specs.declared.Outcome.{Outcome}
 use Rattle.decoder.specs.declared.Decoded.{Decoded}
-use Rattle.decoder.specs.Listed.{decodes}
-use Rattle.bytecode.specs.Decode.{checkCode}
 use Rattle.flow.specs.Flow.{flowOf}
-use Rattle.targets.specs.declared.Pool.{Pool}
-use Rattle.targets.specs.declared.Pool.the-variants as pool
 use Rattle.targets.specs.declared.Target.{Target}
 use Rattle.targets.specs.declared.Target.the-variants as target
 use Rattle.targets.specs.declared.Table.{Table}
@@ -28,45 +18,17 @@ use Rattle.targets.specs.declared.Table.the-variants as table
 use Rattle.targets.specs.declared.Entries.{Entries}
 use Rattle.targets.specs.declared.Entry.{Entry}
 use Rattle.targets.specs.declared.Entry.the-variants as entry
-use Rattle.targets.specs.Targets.{poolElem, found, here, jumpTarget, jumpTable, entryAt}
-use Rattle.disasm.specs.Listing.{Files, poolBy, poolOf}
-use Rattle.jumps.specs.declared.Owner.{Owner}
-use Rattle.jumps.specs.declared.Owner.the-variants as owner
+use Rattle.targets.specs.Targets.{found, here, jumpTarget, jumpTable, entryAt}
+use Rattle.function.specs.declared.PoolObject.{PoolObject}
+use Rattle.function.specs.Files.{Files, checkLent}
+use Rattle.function.specs.Pool.{lentPool, lentElem}
+use Rattle.function.specs.Code.{decodedAt}
 use Rattle.jumps.specs.declared.TargetAt.{TargetAt}
 use Rattle.jumps.specs.declared.TargetAt.the-variants as target-at
 use Rattle.jumps.specs.declared.TableAt.{TableAt}
 use Rattle.jumps.specs.declared.TableAt.the-variants as table-at
 use Rattle.jumps.specs.declared.EntryAnswer.{EntryAnswer}
 use Rattle.jumps.specs.declared.EntryAnswer.the-variants as entry-answer
-
--- "Each call makes only the checks for what it is lent": rows 6 to 8 where an object is. It must be there; no header is wanted of it.
-abbrev pub checkOwner : List ℕ → List ℕ → List ℕ → Owner → Check
-checkOwner objects slots payload owner.Nothing = Ok
-checkOwner objects slots payload (owner.Object n) = orElse (checkStore objects slots payload) (checkObject objects n)
-
--- rows 1 to 8 and 10, in 01's order
-abbrev pub checkLent : Files → Owner → List ℕ → Check
-checkLent f w code =
-    orElse (checkTable (f .opcodes) (f .types) (f .runtime) (f .intrinsic) (f .layout))
-    (orElse (checkOwner (f .objects) (f .slots) (f .payload) w) (checkCode code))
-
--- the pool that the code uses; code without an object has none
-abbrev pub ownerPool : Files → Owner → Pool
-ownerPool f owner.Nothing = pool.Nothing
-ownerPool f (owner.Object n) = poolOf f (objectOf (f .objects) n)
-
--- the same by the search that the code makes
-abbrev pub ownerFound : List ℕ → List ℕ → Layout → Owner → Pool
-ownerFound objects slots l owner.Nothing = pool.Nothing
-ownerFound objects slots l (owner.Object n) = poolBy objects (slotSearched slots (objectOf objects n .first) (objectOf objects n .count) (l .«pool_slot»))
-
--- its elements
-abbrev pub ownerElem : Files → Owner → ℕ → Elem
-ownerElem f w = poolElem (f .slots) (f .payload) (layoutOf (f .layout) .«tagged_size») (ownerPool f w)
-
--- 20 and 11 to 15, and "end" at the code's length, by decoding at the place
-abbrev pub decodedAt : Files → List ℕ → ℕ → Decoded
-decodedAt f code at = decodes code (f .opcodes) (f .types) (signedValue (f .layout) 13) at
 
 abbrev pub targetTold : Target → TargetAt
 targetTold (target.At t) = target-at.At t
@@ -86,8 +48,8 @@ unfoldable pub targetOf : List ℕ → (ℕ → Elem) → Decoded → TargetAt
 targetOf ops el d = targetAfter (d .outcome) (targetTold (jumpTarget el (flowOf ops (d .instr .opcode)) (d .instr)))
 
 -- 01's `jump_target`
-unfoldable pub targetCall : Files → Owner → List ℕ → ℕ → TargetAt
-targetCall f w code at = targetUnless (checkLent f w code) (targetOf (f .opcodes) (ownerElem f w) (decodedAt f code at))
+unfoldable pub targetCall : Files → PoolObject → List ℕ → ℕ → TargetAt
+targetCall f w code at = targetUnless (checkLent f w code) (targetOf (f .opcodes) (lentElem f w) (decodedAt f code at))
 
 -- 16: "entry count below 0 or above 4,096"; its place is the instruction's start
 abbrev pub tableTold : Table → ℕ → TableAt
@@ -109,8 +71,8 @@ unfoldable pub tableOf : List ℕ → Bool → Decoded → ℕ → TableAt
 tableOf ops pooled d at = tableAfter (d .outcome) (tableTold (jumpTable pooled (flowOf ops (d .instr .opcode)) (d .instr)) at)
 
 -- 01's `jump_table`
-unfoldable pub tableCall : Files → Owner → List ℕ → ℕ → TableAt
-tableCall f w code at = tableUnless (checkLent f w code) (tableOf (f .opcodes) (found (ownerPool f w)) (decodedAt f code at) at)
+unfoldable pub tableCall : Files → PoolObject → List ℕ → ℕ → TableAt
+tableCall f w code at = tableUnless (checkLent f w code) (tableOf (f .opcodes) (found (lentPool f w)) (decodedAt f code at) at)
 
 -- "Elements that are no small integer are skipped."
 abbrev pub entryTold : Entry → EntryAnswer
@@ -129,5 +91,5 @@ entryOf el from table-at.End k = entry-answer.End
 entryOf el from (table-at.Refused r) k = entry-answer.Refused r
 
 -- entry k of 01's `jump_table`: "`{ 5: @4 }`" shows case 5 and target 4
-unfoldable pub entryCall : Files → Owner → List ℕ → ℕ → ℕ → EntryAnswer
-entryCall f w code at k = entryOf (ownerElem f w) (here (decodedAt f code at .instr)) (tableCall f w code at) k
+unfoldable pub entryCall : Files → PoolObject → List ℕ → ℕ → ℕ → EntryAnswer
+entryCall f w code at k = entryOf (lentElem f w) (here (decodedAt f code at .instr)) (tableCall f w code at) k

@@ -2,9 +2,9 @@
 use decoder::Decoded;
 use decoder::Outcome;
 use flow::Flow;
+use function::PoolObject;
 use refusal::Check;
 use refusal::Refusal;
-use tables::Layout;
 use targets::Entries;
 use targets::Entry;
 use targets::Pool;
@@ -13,14 +13,9 @@ use targets::Target;
 ghost use mathlib.Core.Path.{_≡_};
 ghost use mathlib.Core.List.{[]};
 ghost use Rattle.flow.specs.Flow.{flowOf};
-ghost use Rattle.targets.specs.Targets.{poolSearched, found};
-ghost use Rattle.jumps.specs.Jumps.{checkOwner, checkLent, ownerFound, targetTold, targetOf, targetCall, tableTold, tableOf, tableCall, entryTold, entryIn, entryOf, entryCall};
-
-// The object whose pool the code uses, if one is lent. Without one no store is lent either.
-pub enum Owner {
-    Nothing,
-    Object(usize),
-}
+ghost use Rattle.targets.specs.Targets.{found};
+ghost use Rattle.targets.specs.mirror.Search.{poolSearched};
+ghost use Rattle.jumps.specs.Jumps.{targetTold, targetOf, targetCall, tableTold, tableOf, tableCall, entryTold, entryIn, entryOf, entryCall};
 
 // Where a jump goes. End is the code's end; Nothing is no target.
 pub enum TargetAt {
@@ -59,15 +54,24 @@ pub fn jump_target(
     objects: &[u8],
     slots: &[u8],
     payload: &[u8],
-    owner: Owner,
+    object: PoolObject,
 ) -> TargetAt
-    ensures { λ r. ⌜ r ≡ targetCall (record { opcodes = now (opcodes .entry); types = now (types .entry); runtime = []; intrinsic = []; layout = now (layout .entry); objects = now (objects .entry); slots = now (slots .entry); payload = now (payload .entry) }) owner (now (code .entry)) at ⌝ }
+    ensures { λ r. ⌜ r ≡ targetCall (record { opcodes = now (opcodes .entry); types = now (types .entry); runtime = []; intrinsic = []; layout = now (layout .entry); objects = now (objects .entry); slots = now (slots .entry); payload = now (payload .entry) }) object (now (code .entry)) at ⌝ }
 {
-    match check_lent(code, opcodes, types, layout, objects, slots, payload, owner) {
+    match function::check_lent(
+        code,
+        opcodes,
+        types,
+        layout,
+        objects,
+        slots,
+        payload,
+        object,
+    ) {
         Check::Refused(refusal) => TargetAt::Refused(refusal),
         Check::Ok => {
             let shape = tables::layout_of(layout);
-            let pool = pool_of(objects, slots, shape, owner);
+            let pool = function::lent_pool(objects, slots, shape, object);
             let d = bytecode::decode_with(opcodes, types, layout, code, at);
             target_of(opcodes, slots, payload, shape.tagged_size, pool, d)
         }
@@ -84,15 +88,24 @@ pub fn jump_table(
     objects: &[u8],
     slots: &[u8],
     payload: &[u8],
-    owner: Owner,
+    object: PoolObject,
 ) -> TableAt
-    ensures { λ r. ⌜ r ≡ tableCall (record { opcodes = now (opcodes .entry); types = now (types .entry); runtime = []; intrinsic = []; layout = now (layout .entry); objects = now (objects .entry); slots = now (slots .entry); payload = now (payload .entry) }) owner (now (code .entry)) at ⌝ }
+    ensures { λ r. ⌜ r ≡ tableCall (record { opcodes = now (opcodes .entry); types = now (types .entry); runtime = []; intrinsic = []; layout = now (layout .entry); objects = now (objects .entry); slots = now (slots .entry); payload = now (payload .entry) }) object (now (code .entry)) at ⌝ }
 {
-    match check_lent(code, opcodes, types, layout, objects, slots, payload, owner) {
+    match function::check_lent(
+        code,
+        opcodes,
+        types,
+        layout,
+        objects,
+        slots,
+        payload,
+        object,
+    ) {
         Check::Refused(refusal) => TableAt::Refused(refusal),
         Check::Ok => {
             let shape = tables::layout_of(layout);
-            let pool = pool_of(objects, slots, shape, owner);
+            let pool = function::lent_pool(objects, slots, shape, object);
             let d = bytecode::decode_with(opcodes, types, layout, code, at);
             table_of(opcodes, pool, d, at)
         }
@@ -109,73 +122,31 @@ pub fn jump_entry(
     objects: &[u8],
     slots: &[u8],
     payload: &[u8],
-    owner: Owner,
+    object: PoolObject,
     k: usize,
 ) -> EntryAnswer
-    ensures { λ r. ⌜ r ≡ entryCall (record { opcodes = now (opcodes .entry); types = now (types .entry); runtime = []; intrinsic = []; layout = now (layout .entry); objects = now (objects .entry); slots = now (slots .entry); payload = now (payload .entry) }) owner (now (code .entry)) at k ⌝ }
+    ensures { λ r. ⌜ r ≡ entryCall (record { opcodes = now (opcodes .entry); types = now (types .entry); runtime = []; intrinsic = []; layout = now (layout .entry); objects = now (objects .entry); slots = now (slots .entry); payload = now (payload .entry) }) object (now (code .entry)) at k ⌝ }
 {
-    match check_lent(code, opcodes, types, layout, objects, slots, payload, owner) {
+    match function::check_lent(
+        code,
+        opcodes,
+        types,
+        layout,
+        objects,
+        slots,
+        payload,
+        object,
+    ) {
         Check::Refused(refusal) => EntryAnswer::Refused(refusal),
         Check::Ok => {
             let shape = tables::layout_of(layout);
-            let pool = pool_of(objects, slots, shape, owner);
+            let pool = function::lent_pool(objects, slots, shape, object);
             let d = bytecode::decode_with(opcodes, types, layout, code, at);
             let table = table_of(opcodes, pool, d, at);
             let instr = d.instr;
             let from = targets::here(instr);
             entry_of(slots, payload, shape.tagged_size, pool, from, table, k)
         }
-    }
-}
-
-// Rows 1 to 8 and 10.
-pub fn check_lent(
-    code: &[u8],
-    opcodes: &[u8],
-    types: &[u8],
-    layout: &[u8],
-    objects: &[u8],
-    slots: &[u8],
-    payload: &[u8],
-    owner: Owner,
-) -> Check
-    ensures { λ r. ⌜ r ≡ checkLent (record { opcodes = now (opcodes .entry); types = now (types .entry); runtime = []; intrinsic = []; layout = now (layout .entry); objects = now (objects .entry); slots = now (slots .entry); payload = now (payload .entry) }) owner (now (code .entry)) ⌝ }
-{
-    let table = tables::check_table(opcodes, types, b"", b"", layout);
-    let owned = check_owner(objects, slots, payload, owner);
-    let rest = refusal::or_else(owned, bytecode::check_code(code));
-    refusal::or_else(table, rest)
-}
-
-// The pool that the code uses. It checks nothing.
-pub fn pool_of(objects: &[u8], slots: &[u8], shape: Layout, owner: Owner) -> Pool
-    ensures { λ r. ⌜ r ≡ ownerFound (now (objects .entry)) (now (slots .entry)) shape owner ⌝ }
-{
-    match owner {
-        Owner::Nothing => Pool::Nothing,
-        Owner::Object(n) => {
-            let object = store::object_of(objects, n);
-            let found = serializer::find_slot(
-                slots,
-                object.first,
-                object.count,
-                shape.pool_slot as u64,
-            );
-            disasm::pool_by(objects, found)
-        }
-    }
-}
-
-// Rows 6 to 8, where an object is lent.
-fn check_owner(objects: &[u8], slots: &[u8], payload: &[u8], owner: Owner) -> Check
-    ensures { λ r. ⌜ r ≡ checkOwner (now (objects .entry)) (now (slots .entry)) (now (payload .entry)) owner ⌝ }
-{
-    match owner {
-        Owner::Nothing => Check::Ok,
-        Owner::Object(n) => refusal::or_else(
-            store::check_store(objects, slots, payload),
-            store::check_object(objects, n),
-        ),
     }
 }
 

@@ -14,7 +14,8 @@ ghost use mathlib.Core.Bool.{cond, false};
 ghost use Rattle.laws.specs.Ascii.{ascii};
 ghost use Prim.Native.Nat.{_-_, min};
 ghost use Rattle.text.specs.Put.{Put, place};
-ghost use Rattle.targets.specs.Targets.{poolSearched, found};
+ghost use Rattle.targets.specs.Targets.{found};
+ghost use Rattle.targets.specs.mirror.Search.{poolSearched};
 ghost use Rattle.lines.specs.Room.{entriesOf, targetRoom, lineRoom};
 ghost use Rattle.lines.specs.Line.{View, before, operandsBy, placeText, targetText, entryText, shownAfter, entriesFrom, tableText, lineBy};
 

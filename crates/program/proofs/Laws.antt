@@ -28,10 +28,12 @@ use Rattle.targets.specs.declared.Pool.{Pool}
 use Rattle.targets.specs.Targets.{poolElem}
 use Rattle.decoder.specs.Listed.{listed}
 use Rattle.disasm.specs.declared.Listed.{Listed}
-use Rattle.disasm.specs.Lines.{linesText, listingCheck}
-use Rattle.disasm.specs.Listing.{Files, headerText, unless, putText, viewBy, listView, listHeader, poolOf, listObject, checkFiles, listCall}
+use Rattle.function.specs.Files.{Files, checkFiles}
+use Rattle.function.specs.Pool.{poolOf}
+use Rattle.function.specs.Code.{headerCheck, headerAt, listingCheck}
+use Rattle.disasm.specs.Listing.{headerText, linesText, unless, putText, viewBy, listView, listHeader, listObject, listCall}
 use Rattle.walk.specs.declared.Walked.{Walked}
-use Rattle.walk.specs.Walk.{walkCheck, walkFound, walkSource, headerCheck, headerAt, objectSource, walkCall}
+use Rattle.walk.specs.Walk.{walkCheck, walkFound, walkSource, objectSource, walkCall}
 use Rattle.program.specs.Printed.{refusalText, withinLimit, limitCheck, limited, told, shown, Printed, walkText, walkLimited, walkAnswer, walkShown}
 use Rattle.walk.specs.declared.Walked.the-variants as walked
 use Rattle.walk.specs.Walk as walk

@@ -13,7 +13,8 @@ use Rattle.text.specs.Texts.{decimal}
 use Rattle.tables.specs.Check.{checkTable}
 use Rattle.disasm.specs.declared.Listed.{Listed}
 use Rattle.disasm.specs.declared.Listed.the-variants as listed-as
-use Rattle.disasm.specs.Listing.{Files, unless, listCall}
+use Rattle.function.specs.Files.{Files}
+use Rattle.disasm.specs.Listing.{unless, listCall}
 use Rattle.walk.specs.declared.Walked.{Walked}
 use Rattle.walk.specs.declared.Walked.the-variants as walked
 use Rattle.walk.specs.Walk as walk

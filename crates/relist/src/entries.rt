@@ -1,6 +1,6 @@
 // Targets and entries of an instruction of lent code, with the pool of an object or without a pool.
+use function::PoolObject;
 use jumps::EntryAnswer;
-use jumps::Owner;
 use jumps::TableAt;
 use jumps::TargetAt;
 use targets::Entries;
@@ -14,12 +14,12 @@ use vectors::said;
 // In place of an object's number: no store and no pool.
 const NO_OBJECT: u64 = 18446744073709551615;
 
-fn owner(call: &[u8]) -> Owner {
+fn pool_object(call: &[u8]) -> PoolObject {
     let object = words::u64_at(call, 0);
     if object == NO_OBJECT {
-        return Owner::Nothing;
+        return PoolObject::Nothing;
     }
-    Owner::Object(object as usize)
+    PoolObject::Object(object as usize)
 }
 
 // 8: the target of a jump.
@@ -34,7 +34,7 @@ pub fn jump_target(bytes: &[u8], files: Files, call: &[u8]) -> bool {
         file(bytes, files, 5),
         file(bytes, files, 6),
         file(bytes, files, 7),
-        owner(call),
+        pool_object(call),
     );
     match target {
         TargetAt::At(n) => said::is_number(said, n),
@@ -56,7 +56,7 @@ pub fn jump_table(bytes: &[u8], files: Files, call: &[u8]) -> bool {
         file(bytes, files, 5),
         file(bytes, files, 6),
         file(bytes, files, 7),
-        owner(call),
+        pool_object(call),
     );
     match table {
         TableAt::At(entries) => are_entries(bytes, files, call, entries),
@@ -78,7 +78,7 @@ pub fn jump_entry(bytes: &[u8], files: Files, call: &[u8]) -> bool {
         file(bytes, files, 5),
         file(bytes, files, 6),
         file(bytes, files, 7),
-        owner(call),
+        pool_object(call),
         words::u64_at(call, 16) as usize,
     );
     match entry {
@@ -108,7 +108,7 @@ fn are_entries(bytes: &[u8], files: Files, call: &[u8], entries: Entries) -> boo
         slots,
         file(bytes, files, 7),
         layout.tagged_size,
-        jumps::pool_of(file(bytes, files, 5), slots, layout, owner(call)),
+        function::lent_pool(file(bytes, files, 5), slots, layout, pool_object(call)),
         words::u64_at(call, 8),
         entries,
         behind(call, 16),

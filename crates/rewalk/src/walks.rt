@@ -1,8 +1,8 @@
 // The walk check of object 0 and of lent code.
 use crate::answers;
 use crate::shown;
+use function::PoolObject;
 use header::HeaderAt;
-use jumps::Owner;
 use refusal::Refusal;
 use vectors::items::Files;
 use vectors::items::behind;
@@ -152,13 +152,13 @@ pub fn walk_code(bytes: &[u8], files: Files, object: u64, code: &[u8], marks: &m
         file(bytes, files, 5),
         file(bytes, files, 6),
         file(bytes, files, 7),
-        owner(object),
+        pool_object(object),
     )
 }
 
-fn owner(object: u64) -> Owner {
+fn pool_object(object: u64) -> PoolObject {
     if object == NO_OBJECT {
-        return Owner::Nothing;
+        return PoolObject::Nothing;
     }
-    Owner::Object(object as usize)
+    PoolObject::Object(object as usize)
 }

@@ -13,16 +13,16 @@ use Rattle.laws.specs.Scan.{firstFrom}
 use Rattle.laws.proofs.Scan.{first-within, first-holds, first-before, first-none}
 use Rattle.laws.proofs.Tests.{and-left, under?, clash}
 use Rattle.store.specs.Records.{slotOf}
-use Rattle.store.specs.Check.{Ordered}
+use Rattle.store.specs.mirror.Ordered.{Ordered}
 use Rattle.store.specs.declared.Slot.{Slot}
 use Rattle.store.specs.declared.SlotValue.{SlotValue}
 use Rattle.store.specs.declared.Object.{Object}
 use Rattle.serializer.specs.Down.{walkDown, stopping}
-use Rattle.serializer.specs.Search.{pointAt}
-use Rattle.serializer.specs.Slots.{slotAt, slotHere, slotSearched}
-use Rattle.serializer.specs.Field.{rawLook, rawSought, rawAt, rawSearched}
-use Rattle.serializer.specs.Element.{elemLook, elemSought, elemAt, elemSearched}
-use Rattle.serializer.specs.Length.{arrayLen, lenSearched}
+use Rattle.serializer.specs.mirror.Search.{pointAt, slotHere, slotSearched, rawSearched, elemSearched, lenSearched}
+use Rattle.serializer.specs.Slots.{slotAt}
+use Rattle.serializer.specs.Field.{rawLook, rawSought, rawAt}
+use Rattle.serializer.specs.Element.{elemLook, elemSought, elemAt}
+use Rattle.serializer.specs.Length.{arrayLen}
 use Rattle.serializer.specs.declared.SlotAt.{SlotAt}
 use Rattle.serializer.specs.declared.RawAt.{RawAt}
 use Rattle.serializer.specs.declared.Elem.{Elem}

@@ -12,7 +12,6 @@ use Rattle.store.specs.declared.SlotValue.the-variants as value
 use Rattle.store.specs.declared.Slot.{Slot}
 use Rattle.serializer.specs.Smi.{smiAt}
 use Rattle.serializer.specs.Down.{walkDown}
-use Rattle.serializer.specs.Search.{pointAt}
 use Rattle.serializer.specs.declared.Smi.{Smi}
 use Rattle.serializer.specs.declared.Smi.the-variants as smi
 use Rattle.serializer.specs.declared.Elem.{Elem}
@@ -78,7 +77,3 @@ elemFrom s payload first ts n k = cond (elemSought ts n) (walkDown (elemLook pay
 -- element n, by the count slots from number first on
 unfoldable pub elemAt : List ℕ → List ℕ → ℕ → ℕ → ℕ → ℕ → Elem
 elemAt s payload first count ts n = elemFrom s payload first ts n count
-
--- the walk from where the search leads
-unfoldable pub elemSearched : List ℕ → List ℕ → ℕ → ℕ → ℕ → ℕ → Elem
-elemSearched s payload first count ts n = elemFrom s payload first ts n (pointAt s first count (n + 2 + 1))

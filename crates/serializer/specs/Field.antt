@@ -8,7 +8,6 @@ use Rattle.store.specs.declared.SlotValue.{SlotValue}
 use Rattle.store.specs.declared.SlotValue.the-variants as value
 use Rattle.store.specs.declared.Slot.{Slot}
 use Rattle.serializer.specs.Down.{walkDown}
-use Rattle.serializer.specs.Search.{pointAt}
 use Rattle.serializer.specs.declared.RawAt.{RawAt}
 use Rattle.serializer.specs.declared.RawAt.the-variants as raw-at
 
@@ -43,7 +42,3 @@ rawFrom s first ts off len k = cond (rawSought ts off len) (walkDown (rawLook ts
 -- where in the payload the field starts, by the count slots from number first on
 unfoldable pub rawAt : List ℕ → ℕ → ℕ → ℕ → ℕ → ℕ → RawAt
 rawAt s first count ts off len = rawFrom s first ts off len count
-
--- the walk from where the search leads
-unfoldable pub rawSearched : List ℕ → ℕ → ℕ → ℕ → ℕ → ℕ → RawAt
-rawSearched s first count ts off len = rawFrom s first ts off len (pointAt s first count (off / ts + 1))

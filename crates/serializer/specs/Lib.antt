@@ -1,6 +1,5 @@
 pub mod Smi
 pub mod Down
-pub mod Search
 pub mod Slots
 pub mod Field
 pub mod Element
@@ -8,3 +7,4 @@ pub mod Length
 pub mod Offset
 pub mod Calls
 pub mod Shown
+pub mod mirror

@@ -10,11 +10,10 @@ ghost use Prim.Native.Nat.{_+_, _*_, _/_, _<_, min, max};
 ghost use lib.ListN.{length, take, drop};
 ghost use Rattle.serializer.specs.Smi.{smiHigh, smiTagged, smiBytes, smiAt};
 ghost use Rattle.serializer.specs.Down.{stops, walkDown};
-ghost use Rattle.serializer.specs.Search.{pointAt};
-ghost use Rattle.serializer.specs.Slots.{slotSearched};
-ghost use Rattle.serializer.specs.Field.{rawRun, rawValue, rawLook, rawSearched};
-ghost use Rattle.serializer.specs.Element.{elemBytes, elemRef, elemRaw, elemInner, elemRepeat, elemValue, elemLook, elemSearched};
-ghost use Rattle.serializer.specs.Length.{roomFor, agrees, plainField, smiField, plainOr, chosen, lenSearched};
+ghost use Rattle.serializer.specs.mirror.Search.{pointAt, slotSearched, rawSearched, elemSearched, lenSearched};
+ghost use Rattle.serializer.specs.Field.{rawRun, rawValue, rawLook};
+ghost use Rattle.serializer.specs.Element.{elemBytes, elemRef, elemRaw, elemInner, elemRepeat, elemValue, elemLook};
+ghost use Rattle.serializer.specs.Length.{roomFor, agrees, plainField, smiField, plainOr, chosen};
 ghost use Rattle.serializer.specs.Calls.{checkAt, slotAnswer, slotCall, rawAnswer, rawCall, rawPart, lenCall, elemCall, offCall};
 ghost use Rattle.serializer.specs.Offset.{isRaw, rawTail, behind, rtOff};
 

@@ -12,7 +12,7 @@ use Rattle.serializer.specs.declared.Elem.{Elem}
 use Rattle.targets.specs.Targets.{entryAt}
 use Rattle.targets.specs.declared.Entries.{Entries}
 use Rattle.steps.specs.declared.Next.{Next}
-use Rattle.steps.specs.Ways.{stepAs, lastStep, entryStep, entryWays}
+use Rattle.steps.specs.mirror.Ways.{stepAs, lastStep, entryStep, entryWays}
 
 -- the step to e alone, and behind one other
 pub last-first : (k e : ℕ) {r : Next} → r ≡ lastStep k 0 e → stepAs r ≡ getElem? (To e ∷ []) k

@@ -14,7 +14,7 @@ use Rattle.graph.specs.Lists.{elem}
 use Rattle.graph.specs.Graph.{Step, Good, Rising, isStart}
 use Rattle.graph.specs.Graph.Step.{To}
 use Rattle.graph.proofs.Steps.{Lawful}
-use Rattle.graph.proofs.Same.{Less}
+use Rattle.graph.proofs.Same.{Less, less-steps}
 use Rattle.decoder.specs.declared.Instr.{Instr}
 use Rattle.decoder.specs.declared.Outcome.{Outcome}
 use Rattle.decoder.specs.declared.Decoded.{Decoded}
@@ -38,7 +38,7 @@ use Rattle.targets.specs.declared.Table.{Table}
 use Rattle.targets.specs.declared.Table.the-variants as table
 use Rattle.steps.specs.declared.Way.{Way}
 use Rattle.steps.specs.Steps.{Source, entrySteps, entriesSteps, tableSteps, stepsBy, instrSteps, stepsAt, listing, offset, walkGraph}
-use Rattle.steps.specs.Ways.{entryStep, entryWays, tableWays, waysBy, waySteps, wayOf, wayAt, searchGraph}
+use Rattle.steps.specs.mirror.Ways.{entryStep, entryWays, tableWays, waysBy, waySteps, wayOf, wayAt, searchGraph}
 
 -- ---- the steps of one instruction
 module _ (el : ℕ → Elem) (at : ℕ) (s : Entries) (e : ℕ) where
@@ -156,17 +156,11 @@ module _ (s : Source) where
 
   pub search-less : Less (searchGraph s) (walkGraph s)
   unfolding walkGraph searchGraph isStart wayAt
-  search-less = record {
-    starts = refl;
-    steps = λ o x e i. subst (λ (l : List Step). Among x l) (sym (at-start o e)) (ways-there (s .elem) (s .pooled) (flowOf (s .opcodes) (dec o .instr .opcode)) (dec o .instr) i);
-  }
+  search-less = less-steps refl (λ o x e i. subst (λ (l : List Step). Among x l) (sym (at-start o e)) (ways-there (s .elem) (s .pooled) (flowOf (s .opcodes) (dec o .instr .opcode)) (dec o .instr) i))
 
   pub less-search : Less (walkGraph s) (searchGraph s)
   unfolding walkGraph searchGraph isStart wayAt
-  less-search = record {
-    starts = refl;
-    steps = λ o x e i. ways-back (s .elem) (s .pooled) (flowOf (s .opcodes) (dec o .instr .opcode)) (dec o .instr) (subst (λ (l : List Step). Among x l) (at-start o e) i);
-  }
+  less-search = less-steps refl (λ o x e i. ways-back (s .elem) (s .pooled) (flowOf (s .opcodes) (dec o .instr .opcode)) (dec o .instr) (subst (λ (l : List Step). Among x l) (at-start o e) i))
 
 -- ---- the graphs are good and lawful
 rises : (at e : ℕ) (is : List Instr) → Tiles at is e → Rising at (map offset is)
@@ -195,13 +189,14 @@ module _ (s : Source) (ended : listing s .outcome ≡ Outcome.End) where
     zero-first [] t = absurd (omega arith)
     zero-first (i ∷ is) t = rw (eq-eqb 0 (i .offset) (sym (t .0)))
 
-    pub walk-good : Good (walkGraph s)
-    unfolding walkGraph isStart
-    walk-good = record { at-zero = zero-first (listing s .instrs) tiles; rising = rises 0 (length (s .code)) (listing s .instrs) tiles }
-
-    pub search-good : Good (searchGraph s)
+    -- of code that is not empty an instruction starts at 0
+    pub search-first : isStart (searchGraph s) 0 ≡ true
     unfolding searchGraph isStart
-    search-good = record { at-zero = zero-first (listing s .instrs) tiles; rising = rises 0 (length (s .code)) (listing s .instrs) tiles }
+    search-first = zero-first (listing s .instrs) tiles
+
+  pub walk-good : Good (walkGraph s)
+  unfolding walkGraph
+  walk-good = record { rising = rises 0 (length (s .code)) (listing s .instrs) tiles }
 
   pub search-inside : (o : ℕ) → isStart (searchGraph s) o ≡ true → o < length (s .code)
   unfolding searchGraph isStart

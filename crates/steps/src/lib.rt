@@ -12,9 +12,10 @@ ghost use mathlib.Core.Path.{_≡_};
 ghost use mathlib.Core.List.{[], _∷_};
 ghost use lib.ListN.{getElem?};
 ghost use mathlib.Core.Option.{some};
-ghost use Rattle.targets.specs.Targets.{poolSearched, found, entryAt};
+ghost use Rattle.targets.specs.Targets.{found, entryAt};
+ghost use Rattle.targets.specs.mirror.Search.{poolSearched};
 ghost use Rattle.steps.specs.Steps.{toTarget};
-ghost use Rattle.steps.specs.Ways.{stepAs, wayOf, waySteps, tableWays, entryStep, lastStep};
+ghost use Rattle.steps.specs.mirror.Ways.{stepAs, wayOf, waySteps, tableWays, entryStep, lastStep};
 
 // A step: to an offset, without a target, or none with this number.
 pub enum Next {

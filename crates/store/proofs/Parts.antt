@@ -16,7 +16,7 @@ use Rattle.laws.specs.Scan.{firstFrom}
 use Rattle.laws.proofs.Scan.{first-is, first-within, first-holds, first-before, first-more}
 use Rattle.laws.proofs.Tests.{under?, same?}
 use Rattle.store.specs.Records.{slotOf, objectOf}
-use Rattle.store.specs.Falls.{lower, Later}
+use Rattle.store.specs.mirror.Falls.{lower, Later}
 use Rattle.store.specs.Check.{fallsIn, falls}
 use Rattle.store.proofs.Falls.{high, level}
 

@@ -17,7 +17,8 @@ use Rattle.serializer.specs.declared.Elem.{Elem}
 use Rattle.targets.specs.declared.Index.{Index}
 use Rattle.targets.specs.declared.Number.{Number}
 use Rattle.targets.specs.declared.Target.{Target}
-use Rattle.targets.specs.Targets.{operandOf, here, indexOf, numberOf, elemNumber, distanceBy, targetBy, isJump, jumpTarget, countOk}
+use Rattle.targets.specs.Targets.{operandOf, here, indexOf, numberOf, elemNumber, distanceBy, targetBy, jumpTarget, countOk}
+use Rattle.targets.specs.mirror.Jumps.{isJump}
 use Rattle.targets.specs.declared.Number.the-variants as number
 use Rattle.targets.specs.declared.Target.the-variants as target
 

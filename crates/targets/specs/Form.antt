@@ -33,8 +33,8 @@ jumpFlow jumpImmediate conditional = plain (cond conditional kind.Branches kind.
 jumpFlow jumpConstant conditional = plain (cond conditional kind.Branches kind.Jumps) true
 
 abbrev pub switchFlow : Switch → Flow
-switchFlow switchOnSmiNoFeedback = record { kind = kind.Switch; pool = true; first = 0; base = true }
-switchFlow switchOnGeneratorState = record { kind = kind.Switch; pool = true; first = 1; base = false }
+switchFlow switchOnSmiNoFeedback = record { kind = kind.Switch; pool = false; first = 0; base = true }
+switchFlow switchOnGeneratorState = record { kind = kind.Switch; pool = false; first = 1; base = false }
 
 -- our flow of an opcode of a name
 abbrev pub flowNamed : String → Flow

@@ -1,3 +1,4 @@
 pub mod Targets
 pub mod V8
 pub mod Form
+pub mod mirror

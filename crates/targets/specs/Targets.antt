@@ -15,7 +15,7 @@ use Rattle.flow.specs.declared.Kind.the-variants.{On, Ends, Jumps, Branches, Ju
 use Rattle.flow.specs.declared.Flow.{Flow}
 use Rattle.serializer.specs.declared.Elem.{Elem}
 use Rattle.serializer.specs.declared.Elem.the-variants as elem
-use Rattle.serializer.specs.Element.{elemAt, elemSearched}
+use Rattle.serializer.specs.Element.{elemAt}
 use Rattle.targets.specs.declared.Pool.{Pool}
 use Rattle.targets.specs.declared.Pool.the-variants as pool
 use Rattle.targets.specs.declared.Index.{Index}
@@ -34,11 +34,6 @@ use Rattle.targets.specs.declared.Entry.the-variants as entry
 unfoldable pub poolElem : List ℕ → List ℕ → ℕ → Pool → ℕ → Elem
 poolElem s payload ts (pool.At p) n = elemAt s payload (p .first) (p .count) ts n
 poolElem s payload ts pool.Nothing n = elem.Nothing
-
--- the same by the search that the code makes
-unfoldable pub poolSearched : List ℕ → List ℕ → ℕ → Pool → ℕ → Elem
-poolSearched s payload ts (pool.At p) n = elemSearched s payload (p .first) (p .count) ts n
-poolSearched s payload ts pool.Nothing n = elem.Nothing
 
 abbrev pub found : Pool → Bool
 found (pool.At p) = true
@@ -112,15 +107,6 @@ targetBy Jumps at d = targetFrom at d
 targetBy Branches at d = targetFrom at d
 targetBy JumpsBack at d = targetBack at d
 targetBy Switch at d = target.Nothing
-
--- the kinds of the Rust's list
-abbrev pub isJump : Kind → Bool
-isJump On = false
-isJump Ends = false
-isJump Jumps = true
-isJump Branches = true
-isJump JumpsBack = true
-isJump Switch = false
 
 unfoldable pub jumpTarget : (ℕ → Elem) → Flow → Instr → Target
 jumpTarget el flow i = targetBy (flow .kind) (here i) (distanceBy el (flow .pool) (operandOf i (flow .first)))

@@ -7,7 +7,9 @@ use serializer::Elem;
 ghost use mathlib.Core.Path.{_≡_};
 ghost use Prim.Native.Nat.{_+_};
 ghost use Rattle.targets.specs.declared.Number.the-variants as number;
-ghost use Rattle.targets.specs.Targets.{poolSearched, found, operandOf, here, indexOf, numberOf, targetBy, jumpTarget, isJump, isSwitch, baseOf, sizedBy, tableBy, jumpTable, entryAt};
+ghost use Rattle.targets.specs.Targets.{found, operandOf, here, indexOf, numberOf, targetBy, jumpTarget, isSwitch, baseOf, sizedBy, tableBy, jumpTable, entryAt};
+ghost use Rattle.targets.specs.mirror.Jumps.{isJump};
+ghost use Rattle.targets.specs.mirror.Search.{poolSearched};
 
 // The slots of the constant pool.
 pub struct PoolSlots {

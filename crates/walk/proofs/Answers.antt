@@ -3,31 +3,30 @@ use Prim.Native.Nat.{ℕ, zero, suc, _<_, _≤_}
 use mathlib.Core.Path.{_≡_, refl, sym, ap, subst, _∙_}
 use mathlib.Core.List.{List, [], _++_, append-nil}
 use native.Mathlib.Omega.{arith}
-use borrow.Author.Tests.{lt-ltb, le-ltb, le-leb, lt-leb, ltb-true}
-use lib.Dec.{ltb}
+use borrow.Author.Tests.{lt-ltb, le-ltb, le-leb, lt-leb}
 use lib.ListN.{length, drop, drop-of-length-le}
 use Rattle.refusal.specs.declared.Refusal.{Refusal}
 use Rattle.refusal.specs.declared.Check.{Check}
 use Rattle.refusal.specs.declared.Check.the-variants.{Ok, Refused}
-use Rattle.refusal.specs.Check.{refusalAt, unlessGood}
+use Rattle.refusal.specs.Check.{refusalAt}
 use Rattle.decoder.specs.declared.Outcome.{Outcome}
 use Rattle.decoder.specs.declared.Decoded.{Decoded}
 use Rattle.decoder.specs.Listed.{listOn, listFrom, decodes}
-use Rattle.disasm.specs.Lines.{codeCheck, listingCheck}
-use Rattle.refusal.proofs.Laws.{never, or-left, or-right, good-is}
+use Rattle.function.specs.Code.{codeCheck, listingCheck}
+use Rattle.refusal.proofs.Laws.{never, or-left}
 use Rattle.graph.specs.Graph.{Finding, Claim, finding, markList}
 use Rattle.graph.specs.Graph.Finding.{closed, leaves}
-use Rattle.graph.specs.Right.{Answer}
+use Rattle.graph.specs.mirror.Right.{Answer}
 use Rattle.graph.proofs.Findings.{finding-meets}
 use Rattle.graph.proofs.Answers.{found}
 use Rattle.graph.proofs.Same.{answer-same}
 use Rattle.steps.specs.Steps.{Source, listing, walkGraph}
-use Rattle.steps.specs.Ways.{searchGraph}
-use Rattle.steps.proofs.Same.{search-less, less-search, walk-good, search-good}
+use Rattle.steps.specs.mirror.Ways.{searchGraph}
+use Rattle.steps.proofs.Same.{search-less, less-search, walk-good}
 use Rattle.walk.specs.declared.Walked.{Walked}
+use Rattle.walk.specs.Walk.{answer, walkCheck, walkFound, unless, walkSource, WalkedAs, Promise}
+use Rattle.walk.specs.mirror.Search.{Answered}
 use Rattle.walk.specs.declared.Walked.the-variants as walked
-use Rattle.walk.specs.Walk.{answer, roomCheck, walkCheck, walkFound, unless, walkSource, WalkedAs, Promise}
-use Rattle.walk.specs.Search.{Answered}
 
 -- a listing that no fault ended came to the code's end
 list-ends : (d : ℕ → Decoded) (f at : ℕ) → codeCheck (listFrom d f at .outcome) ≡ Ok → listFrom d f at .outcome ≡ Outcome.End
@@ -60,10 +59,10 @@ module _ (s : Source) where
   ended ok = list-ends (decodes (s .code) (s .opcodes) (s .types) (s .rfs)) (suc (length (s .code))) 0 (no-fault ok)
 
   -- ---- the search
-  module _ (end : listing s .outcome ≡ Outcome.End) (some : 0 < length (s .code)) where
+  module _ (end : listing s .outcome ≡ Outcome.End) where
     right : {M : List ℕ} {f : Finding} → length M ≡ length (s .code) → Answer (searchGraph s) (length (s .code)) M f → WalkedAs (walkFound s []) (answer f) M
     right len a =
-        let x = found (walk-good s end some) len (answer-same (search-good s end some) (walk-good s end some) (search-less s) (less-search s) a) in
+        let x = found (walk-good s end) len (answer-same (search-less s) (less-search s) a) in
         (ap answer (x .0), x .1 ∙ sym (no-rest (length (s .code)) marks))
 
     pub searched : (M : List ℕ) (r : Walked) → length M ≡ length (s .code) → Answered (searchGraph s) (length (s .code)) M r → WalkedAs (walkFound s []) r M
@@ -106,9 +105,7 @@ module _ (s : Source) where
       go : (c : Check) → walkCheck s (length M) ≡ c → Promise s (unless c M (walkFound s M) .0)
       go (Refused x) h = tt
       go Ok h =
-          let room = or-right whole (roomCheck (length (s .code)) (length M)) h in
-          let some = ltb-true 0 (length (s .code)) (good-is (ltb 0 (length (s .code))) 19 (or-left (unlessGood (ltb 0 (length (s .code))) 19) _ room)) in
-          met (finding (walkGraph s)) (finding-meets (walk-good s (ended (or-left whole _ h)) some))
+          met (finding (walkGraph s)) (finding-meets (walk-good s (ended (or-left whole _ h))))
 
 -- ---- the calls
 -- what a refusal before the code is looked at, or the code's own answer, promises

@@ -12,13 +12,13 @@ use Rattle.decoder.specs.Listed.{decodes}
 use Rattle.flow.specs.Flow.{flowOf}
 use Rattle.flow.specs.declared.Flow.{Flow}
 use Rattle.graph.specs.Graph.{Graph, isStart}
-use Rattle.graph.specs.Queue.{stepOf}
+use Rattle.graph.specs.mirror.Queue.{stepOf}
 use Rattle.steps.specs.declared.Next.{Next}
 use Rattle.steps.specs.declared.Way.{Way}
 use Rattle.steps.specs.Steps.{Source}
-use Rattle.steps.specs.Ways.{stepAs, wayOf, waySteps, wayAt, searchGraph}
+use Rattle.steps.specs.mirror.Ways.{stepAs, wayOf, waySteps, wayAt, searchGraph}
 use Rattle.walk.specs.declared.Setup.{Setup}
-use Rattle.walk.specs.Search.{Tabled, StartsAre}
+use Rattle.walk.specs.mirror.Search.{Tabled, StartsAre}
 
 -- a step by its number, of an instruction whose way is known
 pub step-is : (s : Source) (o k : ℕ) {w : Way} (r : Next) → stepAs r ≡ getElem? (waySteps (s .elem) w) k → w ≡ wayAt s o → stepAs r ≡ stepOf (searchGraph s) o k

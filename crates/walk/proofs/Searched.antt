@@ -14,33 +14,31 @@ use Rattle.refusal.specs.declared.Check.the-variants.{Ok}
 use Rattle.refusal.specs.Check.{orElse}
 use Rattle.store.specs.declared.Object.{Object}
 use Rattle.store.specs.Records.{objectOf}
-use Rattle.store.specs.Check.{checkStore}
 use Rattle.serializer.specs.declared.Elem.{Elem}
-use Rattle.serializer.specs.declared.SlotAt.{SlotAt}
-use Rattle.serializer.specs.Slots.{slotAt, slotSearched}
 use Rattle.serializer.specs.declared.RawAt.{RawAt}
-use Rattle.serializer.specs.declared.RawAt.the-variants as raw-at
-use Rattle.serializer.proofs.Searched.{slot-searched}
 use Rattle.tables.specs.declared.Layout.{Layout}
 use Rattle.tables.specs.Layout.{layoutOf}
 use Rattle.tables.specs.Check.{checkTable}
 use Rattle.header.specs.declared.Header.{Header}
 use Rattle.header.specs.declared.HeaderAt.{HeaderAt}
-use Rattle.header.specs.declared.HeaderAt.the-variants as header-at
-use Rattle.header.specs.Header.{lengthBy, lengthOk, codeAt, headerWith, headerBy, headerSearched}
-use Rattle.header.proofs.Searched.{header-searched}
+use Rattle.header.specs.Header.{lengthBy, lengthOk, codeAt, headerWith, headerBy}
+use Rattle.header.specs.mirror.Header.{headerSearched}
 use Rattle.targets.specs.declared.Pool.{Pool}
-use Rattle.targets.specs.Targets.{poolSearched, found}
-use Rattle.disasm.specs.Listing.{Files, poolBy, poolOf, poolFound, checkFiles}
-use Rattle.refusal.proofs.Laws.{or-left, or-right, good-is}
-use Rattle.disasm.proofs.Searched.{ordered, pool-elems}
-use Rattle.jumps.specs.declared.Owner.{Owner}
+use Rattle.targets.specs.Targets.{found}
+use Rattle.targets.specs.mirror.Search.{poolSearched}
+use Rattle.refusal.proofs.Laws.{or-right, good-is}
 use Rattle.bytecode.specs.Decode.{checkCode}
-use Rattle.jumps.specs.Jumps.{checkOwner, checkLent, ownerPool, ownerFound}
-use Rattle.jumps.proofs.Laws.{lent-pool, lent-elems}
+use Rattle.function.specs.declared.PoolObject.{PoolObject}
+use Rattle.function.specs.Files.{Files, checkFiles, checkPoolObject, checkLent}
+use Rattle.function.specs.Pool.{poolOf, lentPool}
+use Rattle.function.specs.Code.{codeOf, headerCheck, headerAt}
+use Rattle.function.specs.mirror.Pool.{poolFound, lentFound}
+use Rattle.function.proofs.Searched.{header-found, pool-found, elems-found, lent-pool, lent-elems}
 use Rattle.walk.specs.declared.Walked.{Walked}
-use Rattle.walk.specs.Walk.{unless, walkSource, codeOf, headerCheck, headerAt, objectSource, walkCall, lentSource, walkLent}
-use Rattle.walk.specs.Search.{sourceBy, headerFound, walkSearched}
+use Rattle.walk.specs.Walk.{unless, walkSource, objectSource, walkCall, lentSource, walkLent}
+use Rattle.walk.specs.mirror.Search.{sourceBy, headerFound, walkSearched}
+use Rattle.serializer.specs.declared.RawAt.the-variants as raw-at
+use Rattle.header.specs.declared.HeaderAt.the-variants as header-at
 
 -- ---- the code of a header is at most 65,536 bytes long
 abbrev Short : HeaderAt → Type 0
@@ -80,16 +78,12 @@ module _ (f : Files) (M : List ℕ) where
   pub walked-searched : (k : ℕ) → checkFiles f k ≡ Ok → walkSearched f (objectOf (f .objects) k) M ≡ walkCall f k M
   unfolding walkSearched walkCall
   walked-searched k ok =
-      let store = or-left (checkStore (f .objects) (f .slots) (f .payload)) _ (or-right (checkTable (f .opcodes) (f .types) (f .runtime) (f .intrinsic) (f .layout)) _ ok) in
       let o = objectOf (f .objects) k in
       let l = layoutOf (f .layout) in
-      let order = ordered (f .objects) (f .slots) (f .payload) store k in
-      let head = header-searched (f .slots) (f .payload) o l order in
-      let slot = slot-searched (f .slots) (o .first) (o .count) order (l .«pool_slot») in
-      let el = pool-elems (f .objects) (f .slots) (f .payload) store (f .payload) (l .«tagged_size») (slotAt (f .slots) (o .first) (o .count) (l .«pool_slot»)) in
-      ap (λ (x : HeaderAt). walkBy x (poolFound f o) (poolSearched (f .slots) (f .payload) (l .«tagged_size») (poolFound f o))) head
-      ∙ ap (λ (x : SlotAt). walkBy (headerAt f k) (poolBy (f .objects) x) (poolSearched (f .slots) (f .payload) (l .«tagged_size») (poolBy (f .objects) x))) slot
-      ∙ ap (λ (x : ℕ → Elem). walkBy (headerAt f k) (poolOf f o) x) el
+      let p = poolFound (f .objects) (f .slots) l o in
+      ap (λ (x : HeaderAt). walkBy x p (poolSearched (f .slots) (f .payload) (l .«tagged_size») p)) (header-found f k ok)
+      ∙ ap (λ (x : Pool). walkBy (headerAt f k) x (poolSearched (f .slots) (f .payload) (l .«tagged_size») x)) (pool-found f k ok)
+      ∙ ap (λ (x : ℕ → Elem). walkBy (headerAt f k) (poolOf f o) x) (elems-found f k ok)
       ∙ sym (ap (λ (c : Check). unless (orElse c (headerCheck (headerAt f k))) M (walkSource (objectSource f k) M)) ok)
 
 -- a header that was found, and its code
@@ -98,31 +92,31 @@ module _ (f : Files) (o : Object) (M code : List ℕ) (l : Layout) (p : Pool) (h
   pub object-short : length code ≤ 65536
   object-short = subst (λ (c : List ℕ). length c ≤ 65536) (sym e4) (code-short (f .slots) (f .payload) o l h e3)
 
-  pub object-walked : p ≡ poolBy (f .objects) (slotSearched (f .slots) (o .first) (o .count) (l .«pool_slot»))
-      → walkSource (sourceBy code (f .opcodes) (f .types) (f .slots) (f .payload) l p) M ≡ walkSearched f o M
+  pub object-walked : p ≡ poolFound (f .objects) (f .slots) l o → walkSource (sourceBy code (f .opcodes) (f .types) (f .slots) (f .payload) l p) M ≡ walkSearched f o M
   unfolding walkSearched
   object-walked e2 =
       let at : headerFound f o ≡ header-at.At h = ap (λ (x : Layout). headerSearched (f .slots) (f .payload) o x) (sym e1) ∙ e3 in
-      let pool : p ≡ poolFound f o = e2 ∙ ap (λ (x : Layout). poolBy (f .objects) (slotSearched (f .slots) (o .first) (o .count) (x .«pool_slot»))) e1 in
+      let q = poolFound (f .objects) (f .slots) (layoutOf (f .layout)) o in
+      let pool : p ≡ q = e2 ∙ ap (λ (x : Layout). poolFound (f .objects) (f .slots) x o) e1 in
       ap (λ (c : List ℕ). walkSource (sourceBy c (f .opcodes) (f .types) (f .slots) (f .payload) l p) M) e4
       ∙ ap (λ (x : Layout). walkSource (sourceBy (codeOf f (header-at.At h)) (f .opcodes) (f .types) (f .slots) (f .payload) x p) M) e1
       ∙ ap (λ (x : Pool). walkSource (sourceBy (codeOf f (header-at.At h)) (f .opcodes) (f .types) (f .slots) (f .payload) (layoutOf (f .layout)) x) M) pool
-      ∙ sym (ap (λ (x : HeaderAt). unless (headerCheck x) M (walkSource (sourceBy (codeOf f x) (f .opcodes) (f .types) (f .slots) (f .payload) (layoutOf (f .layout)) (poolFound f o)) M)) at)
+      ∙ sym (ap (λ (x : HeaderAt). unless (headerCheck x) M (walkSource (sourceBy (codeOf f x) (f .opcodes) (f .types) (f .slots) (f .payload) (layoutOf (f .layout)) q) M)) at)
 
 -- ---- lent code
-module _ (f : Files) (w : Owner) (code M : List ℕ) (ok : checkLent f w code ≡ Ok) where
+module _ (f : Files) (w : PoolObject) (code M : List ℕ) (ok : checkLent f w code ≡ Ok) where
   pub lent-short : length code ≤ 65536
   lent-short =
-      let c = or-right (checkOwner (f .objects) (f .slots) (f .payload) w) (checkCode code) (or-right (checkTable (f .opcodes) (f .types) (f .runtime) (f .intrinsic) (f .layout)) _ ok) in
+      let c = or-right (checkPoolObject (f .objects) (f .slots) (f .payload) w) (checkCode code) (or-right (checkTable (f .opcodes) (f .types) (f .runtime) (f .intrinsic) (f .layout)) _ ok) in
       leb-true (length code) 65536 (good-is (leb (length code) 65536) 10 c)
 
-  pub lent-walked : (l : Layout) (p : Pool) → l ≡ layoutOf (f .layout) → p ≡ ownerFound (f .objects) (f .slots) l w
+  pub lent-walked : (l : Layout) (p : Pool) → l ≡ layoutOf (f .layout) → p ≡ lentFound (f .objects) (f .slots) l w
       → walkSource (sourceBy code (f .opcodes) (f .types) (f .slots) (f .payload) l p) M ≡ walkLent f w code M
   unfolding walkLent
   lent-walked l p e1 e2 =
       let at = layoutOf (f .layout) in
-      let pool = e2 ∙ ap (λ (x : Layout). ownerFound (f .objects) (f .slots) x w) e1 in
+      let pool = e2 ∙ ap (λ (x : Layout). lentFound (f .objects) (f .slots) x w) e1 in
       ap (λ (x : Layout). walkSource (sourceBy code (f .opcodes) (f .types) (f .slots) (f .payload) x p) M) e1
       ∙ ap (λ (x : Pool). walkSource (record { code = code; opcodes = f .opcodes; types = f .types; rfs = at .frame .«reg_file_start»; pooled = found x; elem = poolSearched (f .slots) (f .payload) (at .«tagged_size») p }) M) (lent-pool f w code ok pool)
-      ∙ ap (λ (x : ℕ → Elem). walkSource (record { code = code; opcodes = f .opcodes; types = f .types; rfs = at .frame .«reg_file_start»; pooled = found (ownerPool f w); elem = x }) M) (lent-elems f w code ok pool)
+      ∙ ap (λ (x : ℕ → Elem). walkSource (record { code = code; opcodes = f .opcodes; types = f .types; rfs = at .frame .«reg_file_start»; pooled = found (lentPool f w); elem = x }) M) (lent-elems f w code ok pool)
       ∙ sym (ap (λ (c : Check). unless c M (walkSource (lentSource f w code) M)) ok)

@@ -2,23 +2,20 @@
 -- the steps of an instruction in crate steps.
 use Prim.Native.Nat.{ℕ}
 use mathlib.Core.Path.{_≡_}
-use mathlib.Core.List.{List, [], _++_}
+use mathlib.Core.List.{List, _++_}
 use lib.Dec.{leb, ltb}
-use lib.ListN.{length, take, drop}
+use lib.ListN.{length, drop}
 use Rattle.refusal.specs.declared.Check.{Check}
 use Rattle.refusal.specs.declared.Check.the-variants.{Ok, Refused}
 use Rattle.refusal.specs.Check.{orElse, unlessGood}
 use Rattle.store.specs.Records.{objectOf}
 use Rattle.tables.specs.Layout.{layoutOf}
-use Rattle.header.specs.declared.HeaderAt.{HeaderAt}
-use Rattle.header.specs.declared.HeaderAt.the-variants as header-at
-use Rattle.header.specs.Header.{headerOf}
 use Rattle.targets.specs.declared.Pool.{Pool}
 use Rattle.targets.specs.Targets.{poolElem, found}
-use Rattle.disasm.specs.Lines.{listingCheck}
-use Rattle.disasm.specs.Listing.{Files, poolOf, checkFiles}
-use Rattle.jumps.specs.declared.Owner.{Owner}
-use Rattle.jumps.specs.Jumps.{checkLent, ownerPool}
+use Rattle.function.specs.declared.PoolObject.{PoolObject}
+use Rattle.function.specs.Files.{Files, checkFiles, checkLent}
+use Rattle.function.specs.Pool.{poolOf, lentPool}
+use Rattle.function.specs.Code.{headerAt, headerCheck, codeOf, listingCheck}
 use Rattle.graph.specs.Graph.{Finding, Closed, Leaves, finding, markList}
 use Rattle.graph.specs.Graph.Finding.{closed, leaves}
 use Rattle.steps.specs.Steps.{Source, listing, walkGraph}
@@ -68,18 +65,6 @@ sourceWith f code p =
     let l = layoutOf (f .layout) in
     record { code = code; opcodes = f .opcodes; types = f .types; rfs = l .frame .«reg_file_start»; pooled = found p; elem = poolElem (f .slots) (f .payload) (l .«tagged_size») p }
 
--- the code of a header; of one that is refused there is none
-abbrev pub codeOf : Files → HeaderAt → List ℕ
-codeOf f (header-at.At h) = take (h .«code_len») (drop (h .«code_at») (f .payload))
-codeOf f (header-at.Refused r) = []
-
-abbrev pub headerCheck : HeaderAt → Check
-headerCheck (header-at.At h) = Ok
-headerCheck (header-at.Refused r) = Refused r
-
-abbrev pub headerAt : Files → ℕ → HeaderAt
-headerAt f k = headerOf (f .slots) (f .payload) (objectOf (f .objects) k) (layoutOf (f .layout))
-
 abbrev pub objectSource : Files → ℕ → Source
 objectSource f k = sourceWith f (codeOf f (headerAt f k)) (poolOf f (objectOf (f .objects) k))
 
@@ -89,9 +74,9 @@ walkCall f k marks = unless (orElse (checkFiles f k) (headerCheck (headerAt f k)
 
 -- ---- the walks of lent code
 -- with the pool of the object that is lent for it, if one is
-abbrev pub lentSource : Files → Owner → List ℕ → Source
-lentSource f o code = sourceWith f code (ownerPool f o)
+abbrev pub lentSource : Files → PoolObject → List ℕ → Source
+lentSource f o code = sourceWith f code (lentPool f o)
 
 -- the call: rows 1 to 8 and 10, then 11 to 16, 19 and 18
-unfoldable pub walkLent : Files → Owner → List ℕ → List ℕ → Walked × List ℕ
+unfoldable pub walkLent : Files → PoolObject → List ℕ → List ℕ → Walked × List ℕ
 walkLent f o code marks = unless (checkLent f o code) marks (walkSource (lentSource f o code) marks)

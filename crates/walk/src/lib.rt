@@ -1,8 +1,8 @@
 // The walk check: breadth first over the listed instructions, each expanded once.
 
 use decoder::Outcome;
+use function::PoolObject;
 use header::HeaderAt;
-use jumps::Owner;
 use refusal::Check;
 use refusal::Refusal;
 use steps::Next;
@@ -12,16 +12,16 @@ use tables::Layout;
 use targets::Pool;
 ghost use mathlib.Core.Path.{_≡_};
 ghost use Prim.Native.Nat.{_≤_, _<_};
-ghost use mathlib.Core.Bool.{false};
+ghost use mathlib.Core.Bool.{true, false};
 ghost use lib.ListN.{length, getD, replicate};
 ghost use Rattle.decoder.specs.Listed.{listed};
-ghost use Rattle.graph.specs.Graph.{Succ, exits};
-ghost use Rattle.graph.specs.Queue.{Held, Grown, SuccIn, Quiet, Lowest, lowerOf};
-ghost use Rattle.steps.specs.Ways.{wayAt};
+ghost use Rattle.graph.specs.Graph.{isStart, Succ, exits};
+ghost use Rattle.graph.specs.mirror.Queue.{Held, Grown, SuccIn, Quiet, Lowest, lowerOf};
+ghost use Rattle.steps.specs.mirror.Ways.{wayAt};
 ghost use mathlib.Core.List.{[]};
 ghost use Rattle.decoder.specs.declared.Outcome.{Outcome as OutcomeIs};
 ghost use Rattle.walk.specs.Walk.{walkFound, walkSource, WalkedAs, Promise, objectSource, walkCall, lentSource, walkLent};
-ghost use Rattle.walk.specs.Search.{sourceOf, graphOf, Tabled, Ready, StartsAre, Started, foundAs, Answered, sourceBy, walkSearched};
+ghost use Rattle.walk.specs.mirror.Search.{sourceOf, graphOf, Tabled, Ready, StartsAre, Started, foundAs, Answered, sourceBy, walkSearched};
 
 // The answer to a walk check: closed, or the steps of the shortest walk that leaves and the offset it leaves from, or a refusal.
 pub enum Walked {
@@ -60,7 +60,7 @@ pub fn walk(
 ) -> Walked
     ensures { λ r. ⌜ WalkedAs (walkCall (record { opcodes = now (opcodes .entry); types = now (types .entry); runtime = now (runtime .entry); intrinsic = now (intrinsic .entry); layout = now (layout .entry); objects = now (objects .entry); slots = now (slots .entry); payload = now (payload .entry) }) object (now (marks .entry))) r (now (marks .exit)) × Promise (objectSource (record { opcodes = now (opcodes .entry); types = now (types .entry); runtime = now (runtime .entry); intrinsic = now (intrinsic .entry); layout = now (layout .entry); objects = now (objects .entry); slots = now (slots .entry); payload = now (payload .entry) }) object) r ⌝ }
 {
-    let check = disasm::check_files(
+    let check = function::check_files(
         opcodes,
         types,
         runtime,
@@ -98,16 +98,25 @@ pub fn walk_code(
     objects: &[u8],
     slots: &[u8],
     payload: &[u8],
-    owner: Owner,
+    object: PoolObject,
 ) -> Walked
-    ensures { λ r. ⌜ WalkedAs (walkLent (record { opcodes = now (opcodes .entry); types = now (types .entry); runtime = []; intrinsic = []; layout = now (layout .entry); objects = now (objects .entry); slots = now (slots .entry); payload = now (payload .entry) }) owner (now (code .entry)) (now (marks .entry))) r (now (marks .exit)) × Promise (lentSource (record { opcodes = now (opcodes .entry); types = now (types .entry); runtime = []; intrinsic = []; layout = now (layout .entry); objects = now (objects .entry); slots = now (slots .entry); payload = now (payload .entry) }) owner (now (code .entry))) r ⌝ }
+    ensures { λ r. ⌜ WalkedAs (walkLent (record { opcodes = now (opcodes .entry); types = now (types .entry); runtime = []; intrinsic = []; layout = now (layout .entry); objects = now (objects .entry); slots = now (slots .entry); payload = now (payload .entry) }) object (now (code .entry)) (now (marks .entry))) r (now (marks .exit)) × Promise (lentSource (record { opcodes = now (opcodes .entry); types = now (types .entry); runtime = []; intrinsic = []; layout = now (layout .entry); objects = now (objects .entry); slots = now (slots .entry); payload = now (payload .entry) }) object (now (code .entry))) r ⌝ }
 {
-    let check = jumps::check_lent(code, opcodes, types, layout, objects, slots, payload, owner);
+    let check = function::check_lent(
+        code,
+        opcodes,
+        types,
+        layout,
+        objects,
+        slots,
+        payload,
+        object,
+    );
     match check {
         Check::Refused(refusal) => Walked::Refused(refusal),
         Check::Ok => {
             let shape = tables::layout_of(layout);
-            let pool = jumps::pool_of(objects, slots, shape, owner);
+            let pool = function::lent_pool(objects, slots, shape, object);
             walk_source(marks, code, opcodes, types, slots, payload, shape, pool)
         }
     }
@@ -132,10 +141,7 @@ fn walk_object(
     match header::header_of(slots, payload, object, shape) {
         HeaderAt::Refused(refusal) => Walked::Refused(refusal),
         HeaderAt::At(h) => {
-            let pool = disasm::pool_by(
-                objects,
-                serializer::find_slot(slots, object.first, object.count, shape.pool_slot as u64),
-            );
+            let pool = function::pool_of(objects, slots, shape, object);
             let code = serializer::lent(payload, h.code_at, h.code_len);
             walk_source(marks, code, opcodes, types, slots, payload, shape, pool)
         }
@@ -355,7 +361,7 @@ fn mark_starts(
             Outcome::Done => {
                 let flow = flow::flow_by(words::byte_at(flows, instr.opcode as usize));
                 let table = targets::jump_table(pool, flow, instr);
-                check = refusal::or_else(check, disasm::table_check(table, instr.offset));
+                check = refusal::or_else(check, function::table_check(table, instr.offset));
                 starts[i] = 1;
                 i = instr.end;
             }
@@ -580,7 +586,7 @@ fn levels(
     marks: &mut [u8],
     queue: &mut [u16],
 ) -> Walked
-    requires { ⌜ Held (now marks) (now queue) 0 × (length (now marks) ≡ length (now code)) × (0 < length (now code)) × Ready (now opcodes) (now flows) setup (graphOf (now code) (now opcodes) (now types) (now slots) (now payload) setup) (length (now code)) × StartsAre ((graphOf (now code) (now opcodes) (now types) (now slots) (now payload) setup) .starts) (now starts) ⌝ }
+    requires { ⌜ Held (now marks) (now queue) 0 × (length (now marks) ≡ length (now code)) × (0 < length (now code)) × Ready (now opcodes) (now flows) setup (graphOf (now code) (now opcodes) (now types) (now slots) (now payload) setup) (length (now code)) × StartsAre ((graphOf (now code) (now opcodes) (now types) (now slots) (now payload) setup) .starts) (now starts) × (isStart (graphOf (now code) (now opcodes) (now types) (now slots) (now payload) setup) 0 ≡ true) ⌝ }
     ensures { λ r. ⌜ Answered (graphOf (now (code .entry)) (now (opcodes .entry)) (now (types .entry)) (now (slots .entry)) (now (payload .entry)) setup) (length (now (code .entry))) (now (marks .exit)) r ⌝ }
 {
     let mut lo = 0;

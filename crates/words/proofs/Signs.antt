@@ -15,7 +15,7 @@ use mir.Facts.{toZ-ofZ}
 use mir.ValLaws.{toZ-pos, toZ-fits, ofZ-toZ}
 use mir.Val.{toZ, ofZ, sel, bits, hbits, SFits, Fits}
 use Rattle.words.specs.Signed.{modulo, wrap32, signed, listLast, negative, eqZ}
-use Rattle.words.specs.Bits.{extendFrom, extendBits}
+use Rattle.words.specs.mirror.Bits.{extendFrom, extendBits}
 use Rattle.words.proofs.Modulo.{modulo-lt, modulo-add, modulo-sub}
 
 -- -1 - z, for both signs of z
@@ -76,9 +76,6 @@ module _ (w : Width) (z : ℤ) (fits : SFits w z) where
   module _ (h : ltZ (toZ w (ofZ w z)) (pos 0) ≡ false) where
     pub not-below : toZ w (ofZ w z) ≡ pos (mag z)
     not-below = toZ-ofZ fits ∙ is-pos z (read h)
-
-    pub abs-pos : natAbs z ≡ mag z
-    abs-pos = ap natAbs (is-pos z (read h))
 
     pub modulo-pos : modulo (2 ^ bits w) z ≡ mag z
     modulo-pos = modulo-fits w z fits ∙ ap (ofZ w) (is-pos z (read h))

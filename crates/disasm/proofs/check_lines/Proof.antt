@@ -17,7 +17,7 @@ use Rattle.flow.specs.declared.Flow.{Flow}
 use Rattle.targets.specs.Targets.{jumpTable, found}
 use Rattle.targets.specs.declared.Table.{Table}
 use Rattle.lines.specs.Room.{lineRoom}
-use Rattle.disasm.specs.Lines.{tableCheck}
+use Rattle.function.specs.Code.{tableCheck}
 use Rattle.disasm.proofs.Checking.{Checking, checking-start, checking-end, checked-refused, checked-end, checked-done}
 use Rattle.disasm.proofs.check_lines.Statement.{statement}
 use Rattle.disasm.proofs.check_lines.Tie as tie

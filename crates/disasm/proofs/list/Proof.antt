@@ -2,7 +2,9 @@ use Prim.Native.Nat.{ℕ}
 use mathlib.Core.List.{List}
 use Rattle.disasm.specs.declared.Listed.{Listed}
 use Rattle.store.specs.declared.Object.{Object}
-use Rattle.disasm.specs.Listing.{Files, listSearched, listCall}
+use Rattle.function.specs.Files.{Files}
+use Rattle.disasm.specs.Listing.{listCall}
+use Rattle.disasm.specs.mirror.Listing.{listSearched}
 use Rattle.disasm.proofs.Searched.{listed-searched}
 use mathlib.Core.Path.{refl, sym, ap, _∙_}
 use denote.Ref.{now}

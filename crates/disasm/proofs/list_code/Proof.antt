@@ -8,7 +8,7 @@ use lib.ListN.{length}
 use Rattle.decoder.specs.Decode.{decodeAt}
 use Rattle.decoder.specs.Listed.{listFrom}
 use Rattle.targets.specs.Targets.{found}
-use Rattle.disasm.specs.Lines.{Checked}
+use Rattle.disasm.specs.mirror.Lines.{Checked}
 use Rattle.disasm.proofs.Laws.{check-refused, check-fits}
 use borrow.Author.Needs.{needs}
 use Rattle.disasm.proofs.list_code.Statement.{statement}

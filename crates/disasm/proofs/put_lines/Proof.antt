@@ -1,7 +1,7 @@
 use Rattle.refusal.specs.Check.{orElse}
 use Rattle.targets.specs.Targets.{jumpTable, found}
 use Rattle.targets.specs.declared.Table.{Table}
-use Rattle.disasm.specs.Lines.{tableCheck}
+use Rattle.function.specs.Code.{tableCheck}
 use Prim.Native.Nat.{_-_, _<_, _≤_}
 use mathlib.Core.Path.{_≡_, sym, ap, subst, _∙_}
 use native.Mathlib.Omega.{arith}

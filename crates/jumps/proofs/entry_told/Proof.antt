@@ -3,9 +3,9 @@ use lib.IntN.{ℤ}
 use mir.Facts.{toZ-ofZ}
 use mir.Syntax.{w32}
 use mir.Val.{SFits}
-use Rattle.jumps.specs.declared.EntryAnswer.the-variants as entry-answer
 use borrow.Author.Needs.{needs}
 use Rattle.jumps.proofs.entry_told.Statement.{statement}
+use Rattle.jumps.specs.declared.EntryAnswer.the-variants as entry-answer
 use Rattle.jumps.proofs.entry_told.Tie as tie
 
 enum-known-entry : tie.Need-enum-known-entry

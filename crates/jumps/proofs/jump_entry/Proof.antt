@@ -3,14 +3,18 @@ use mathlib.Core.Path.{sym, ap, _∙_}
 use mathlib.Core.List.{[]}
 use denote.Ref.{now}
 use Rattle.tables.specs.declared.Layout.{Layout}
-use Rattle.disasm.specs.Listing.{Files}
+use Rattle.function.specs.Files.{Files}
 use Rattle.serializer.specs.declared.Elem.{Elem}
 use Rattle.decoder.specs.declared.Decoded.{Decoded}
 use Rattle.targets.specs.declared.Pool.{Pool}
-use Rattle.targets.specs.Targets.{poolSearched, found, here}
+use Rattle.targets.specs.Targets.{found, here}
+use Rattle.targets.specs.mirror.Search.{poolSearched}
 use Rattle.jumps.specs.declared.TableAt.{TableAt}
-use Rattle.jumps.specs.Jumps.{ownerPool, ownerFound, ownerElem, decodedAt, tableOf, tableCall, entryOf, entryCall}
-use Rattle.jumps.proofs.Laws.{lent-pool, lent-elems}
+use Rattle.function.specs.mirror.Pool.{lentFound}
+use Rattle.function.specs.Pool.{lentPool, lentElem}
+use Rattle.jumps.specs.Jumps.{tableOf, tableCall, entryOf, entryCall}
+use Rattle.function.specs.Code.{decodedAt}
+use Rattle.function.proofs.Searched.{lent-pool, lent-elems}
 use borrow.Author.Needs.{needs}
 use Rattle.jumps.proofs.jump_entry.Statement.{statement}
 use Rattle.jumps.proofs.jump_entry.Tie as tie
@@ -27,8 +31,8 @@ enum-told c = search needs
 layout-of-requires : tie.Need-layout-of-requires
 layout-of-requires c κs = search needs
 
-pool-of-requires : tie.Need-pool-of-requires
-pool-of-requires c κs = search needs
+lent-pool-requires : tie.Need-lent-pool-requires
+lent-pool-requires c κs = search needs
 
 decode-with-requires : tie.Need-decode-with-requires
 decode-with-requires c κs = search needs
@@ -51,20 +55,20 @@ unfolding entryCall tableCall
 returns-2 c =
     let a = c .before .before .before .before .before .before .before .before .before .before .before .before .before .before .before .before .before .args in
     let f : Files = record { opcodes = now (a .opcodes); types = now (a .types); runtime = []; intrinsic = []; layout = now (a .layout); objects = now (a .objects); slots = now (a .slots); payload = now (a .payload) } in
-    let w = a .owner in
+    let w = a .object in
     let ok = sym (c .before .before .before .before .before .before .before .before .before .check-lent .ensures) ∙ c .before .before .before .before .before .before .before .enum-told .given .1 in
-    let p = c .before .before .before .before .before .pool-of .ensures ∙ ap (λ (x : Layout). ownerFound (f .objects) (f .slots) x w) (c .before .before .before .before .before .before .layout-of .ensures) in
+    let p = c .before .before .before .before .before .lent-pool .ensures ∙ ap (λ (x : Layout). lentFound (f .objects) (f .slots) x w) (c .before .before .before .before .before .before .layout-of .ensures) in
     let decoded = c .before .before .before .before .decode-with .ensures in
     let t = c .before .before .before .table-of .ensures
     ∙ ap (λ (x : Pool). tableOf (f .opcodes) (found x) (c .before .before .before .before .decode-with .result) (a .at)) (lent-pool f w (now (a .code)) ok p)
-    ∙ ap (λ (x : Decoded). tableOf (f .opcodes) (found (ownerPool f w)) x (a .at)) decoded in
+    ∙ ap (λ (x : Decoded). tableOf (f .opcodes) (found (lentPool f w)) x (a .at)) decoded in
     let from = c .before .here .ensures ∙ ap (λ (x : Decoded). here (x .instr)) decoded in
     rw ok
     (c .entry-of .ensures
-    ∙ ap (λ (x : Layout). entryOf (poolSearched (f .slots) (f .payload) (x .«tagged_size») (c .before .before .before .before .before .pool-of .result)) (c .before .here .result) (c .before .before .before .table-of .result) (a .k)) (c .before .before .before .before .before .before .layout-of .ensures)
+    ∙ ap (λ (x : Layout). entryOf (poolSearched (f .slots) (f .payload) (x .«tagged_size») (c .before .before .before .before .before .lent-pool .result)) (c .before .here .result) (c .before .before .before .table-of .result) (a .k)) (c .before .before .before .before .before .before .layout-of .ensures)
     ∙ ap (λ (x : ℕ → Elem). entryOf x (c .before .here .result) (c .before .before .before .table-of .result) (a .k)) (lent-elems f w (now (a .code)) ok p)
-    ∙ ap (λ (x : ℕ). entryOf (ownerElem f w) x (c .before .before .before .table-of .result) (a .k)) from
-    ∙ ap (λ (x : TableAt). entryOf (ownerElem f w) (here (decodedAt f (now (a .code)) (a .at) .instr)) x (a .k)) t)
+    ∙ ap (λ (x : ℕ). entryOf (lentElem f w) x (c .before .before .before .table-of .result) (a .k)) from
+    ∙ ap (λ (x : TableAt). entryOf (lentElem f w) (here (decodedAt f (now (a .code)) (a .at) .instr)) x (a .k)) t)
 
 pub jump-entry-spec : {M : Type 1} → statement M
 jump-entry-spec =
@@ -74,7 +78,7 @@ jump-entry-spec =
     enum-known-refusal
     enum-told
     layout-of-requires
-    pool-of-requires
+    lent-pool-requires
     decode-with-requires
     table-of-requires
     here-requires

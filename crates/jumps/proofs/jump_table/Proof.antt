@@ -2,12 +2,14 @@ use mathlib.Core.Path.{sym, ap, _∙_}
 use mathlib.Core.List.{[]}
 use denote.Ref.{now}
 use Rattle.tables.specs.declared.Layout.{Layout}
-use Rattle.disasm.specs.Listing.{Files}
+use Rattle.function.specs.Files.{Files}
 use Rattle.decoder.specs.declared.Decoded.{Decoded}
 use Rattle.targets.specs.declared.Pool.{Pool}
 use Rattle.targets.specs.Targets.{found}
-use Rattle.jumps.specs.Jumps.{ownerPool, ownerFound, tableOf, tableCall}
-use Rattle.jumps.proofs.Laws.{lent-pool}
+use Rattle.function.specs.mirror.Pool.{lentFound}
+use Rattle.function.specs.Pool.{lentPool}
+use Rattle.jumps.specs.Jumps.{tableOf, tableCall}
+use Rattle.function.proofs.Searched.{lent-pool}
 use borrow.Author.Needs.{needs}
 use Rattle.jumps.proofs.jump_table.Statement.{statement}
 use Rattle.jumps.proofs.jump_table.Tie as tie
@@ -24,8 +26,8 @@ enum-told c = search needs
 layout-of-requires : tie.Need-layout-of-requires
 layout-of-requires c κs = search needs
 
-pool-of-requires : tie.Need-pool-of-requires
-pool-of-requires c κs = search needs
+lent-pool-requires : tie.Need-lent-pool-requires
+lent-pool-requires c κs = search needs
 
 decode-with-requires : tie.Need-decode-with-requires
 decode-with-requires c κs = search needs
@@ -42,12 +44,12 @@ unfolding tableCall
 returns-2 c = let a = c .before .before .before .before .before .before .before .before .before .before .before .before .before .before .args in
     let f : Files = record { opcodes = now (a .opcodes); types = now (a .types); runtime = []; intrinsic = []; layout = now (a .layout); objects = now (a .objects); slots = now (a .slots); payload = now (a .payload) } in
     let ok = sym (c .before .before .before .before .before .before .check-lent .ensures) ∙ c .before .before .before .before .enum-told .given .1 in
-    let p = c .before .before .pool-of .ensures ∙ ap (λ (x : Layout). ownerFound (f .objects) (f .slots) x (a .owner)) (c .before .before .before .layout-of .ensures) in
+    let p = c .before .before .lent-pool .ensures ∙ ap (λ (x : Layout). lentFound (f .objects) (f .slots) x (a .object)) (c .before .before .before .layout-of .ensures) in
     let d = c .before .decode-with .result in
     rw ok
     (c .table-of .ensures
-    ∙ ap (λ (x : Pool). tableOf (f .opcodes) (found x) d (a .at)) (lent-pool f (a .owner) (now (a .code)) ok p)
-    ∙ ap (λ (x : Decoded). tableOf (f .opcodes) (found (ownerPool f (a .owner))) x (a .at)) (c .before .decode-with .ensures))
+    ∙ ap (λ (x : Pool). tableOf (f .opcodes) (found x) d (a .at)) (lent-pool f (a .object) (now (a .code)) ok p)
+    ∙ ap (λ (x : Decoded). tableOf (f .opcodes) (found (lentPool f (a .object))) x (a .at)) (c .before .decode-with .ensures))
 
 pub jump-table-spec : {M : Type 1} → statement M
 jump-table-spec =
@@ -57,7 +59,7 @@ jump-table-spec =
     enum-known-refusal
     enum-told
     layout-of-requires
-    pool-of-requires
+    lent-pool-requires
     decode-with-requires
     table-of-requires
     returns

@@ -3,11 +3,13 @@ use mathlib.Core.Path.{sym, ap, _∙_}
 use mathlib.Core.List.{[]}
 use denote.Ref.{now}
 use Rattle.tables.specs.declared.Layout.{Layout}
-use Rattle.disasm.specs.Listing.{Files}
+use Rattle.function.specs.Files.{Files}
 use Rattle.serializer.specs.declared.Elem.{Elem}
-use Rattle.targets.specs.Targets.{poolSearched}
-use Rattle.jumps.specs.Jumps.{ownerFound, ownerElem, targetOf, targetCall}
-use Rattle.jumps.proofs.Laws.{lent-elems}
+use Rattle.targets.specs.mirror.Search.{poolSearched}
+use Rattle.function.specs.mirror.Pool.{lentFound}
+use Rattle.function.specs.Pool.{lentElem}
+use Rattle.jumps.specs.Jumps.{targetOf, targetCall}
+use Rattle.function.proofs.Searched.{lent-elems}
 use borrow.Author.Needs.{needs}
 use Rattle.jumps.proofs.jump_target.Statement.{statement}
 use Rattle.jumps.proofs.jump_target.Tie as tie
@@ -24,8 +26,8 @@ enum-told c = search needs
 layout-of-requires : tie.Need-layout-of-requires
 layout-of-requires c κs = search needs
 
-pool-of-requires : tie.Need-pool-of-requires
-pool-of-requires c κs = search needs
+lent-pool-requires : tie.Need-lent-pool-requires
+lent-pool-requires c κs = search needs
 
 decode-with-requires : tie.Need-decode-with-requires
 decode-with-requires c κs = search needs
@@ -42,15 +44,15 @@ unfolding targetCall
 returns-2 c = let a = c .before .before .before .before .before .before .before .before .before .before .before .before .before .before .args in
     let f : Files = record { opcodes = now (a .opcodes); types = now (a .types); runtime = []; intrinsic = []; layout = now (a .layout); objects = now (a .objects); slots = now (a .slots); payload = now (a .payload) } in
     let ok = sym (c .before .before .before .before .before .before .check-lent .ensures) ∙ c .before .before .before .before .enum-told .given .1 in
-    let p = c .before .before .pool-of .ensures ∙ ap (λ (x : Layout). ownerFound (f .objects) (f .slots) x (a .owner)) (c .before .before .before .layout-of .ensures) in
-    let el = lent-elems f (a .owner) (now (a .code)) ok p in
-    let pool = c .before .before .pool-of .result in
+    let p = c .before .before .lent-pool .ensures ∙ ap (λ (x : Layout). lentFound (f .objects) (f .slots) x (a .object)) (c .before .before .before .layout-of .ensures) in
+    let el = lent-elems f (a .object) (now (a .code)) ok p in
+    let pool = c .before .before .lent-pool .result in
     let d = c .before .decode-with .result in
     rw ok
     (c .target-of .ensures
     ∙ ap (λ (x : Layout). targetOf (f .opcodes) (poolSearched (f .slots) (f .payload) (x .«tagged_size») pool) d) (c .before .before .before .layout-of .ensures)
     ∙ ap (λ (x : ℕ → Elem). targetOf (f .opcodes) x d) el
-    ∙ ap (targetOf (f .opcodes) (ownerElem f (a .owner))) (c .before .decode-with .ensures))
+    ∙ ap (targetOf (f .opcodes) (lentElem f (a .object))) (c .before .decode-with .ensures))
 
 pub jump-target-spec : {M : Type 1} → statement M
 jump-target-spec =
@@ -60,7 +62,7 @@ jump-target-spec =
     enum-known-refusal
     enum-told
     layout-of-requires
-    pool-of-requires
+    lent-pool-requires
     decode-with-requires
     target-of-requires
     returns

@@ -5,7 +5,8 @@ use native.Mathlib.Omega.{arith}
 use native.Mathlib.Nat.{sub-zero}
 use borrow.Author.Needs.{needs}
 use denote.Ref.{now}
-use Rattle.targets.specs.Targets.{poolSearched, entryAt}
+use Rattle.targets.specs.Targets.{entryAt}
+use Rattle.targets.specs.mirror.Search.{poolSearched}
 use Rattle.lines.specs.Line.{entriesFrom, entryText, shownAfter}
 use Rattle.lines.proofs.Written.{Written, written-none, written-more, written-all, written-kept}
 use Rattle.lines.proofs.Laws.{entries-next, entries-end}

@@ -1,6 +1,6 @@
 use mathlib.Core.Path.{refl, sym, _∙_}
 use denote.Ref.{now}
-use Rattle.disasm.specs.Listing.{Files}
+use Rattle.function.specs.Files.{Files}
 use Rattle.program.specs.Printed.{limited}
 use Rattle.program.proofs.Laws.{within}
 use borrow.Author.Needs.{needs}

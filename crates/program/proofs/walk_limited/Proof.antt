@@ -2,7 +2,7 @@ use mathlib.Core.Path.{refl, sym, ap, _∙_}
 use mathlib.Core.List.{List}
 use Prim.Native.Nat.{ℕ}
 use denote.Ref.{now}
-use Rattle.disasm.specs.Listing.{Files}
+use Rattle.function.specs.Files.{Files}
 use Rattle.walk.specs.declared.Walked.{Walked}
 use Rattle.program.proofs.Laws.{walk-within, walk-blind, walk-beyond, walk-refused}
 use borrow.Author.Needs.{needs}

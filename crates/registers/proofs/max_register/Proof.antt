@@ -44,7 +44,7 @@ use denote.Triple.Table.{entered, cited}
 use denote.Triple.Walked.{says, Stays, stay-none-slice, walkOf, goes-none-slice, Walks, ends-at, walked, walk-meets}
 use denote.Exit.{yes}
 use denote.Triple.Clauses.{ensured, lasts}
-use Rattle.decoder.specs.Instr.{blank}
+use Rattle.decoder.specs.Head.{blank}
 use Rattle.registers.specs.Registers.{withInstr, withInstrs, maxRegister}
 use Rattle.registers.proofs.Laws.{instrs-more}
 use Rattle.decoder.specs.declared.Instr.{Instr}

@@ -1,7 +1,7 @@
 use mathlib.Core.List.{[], _∷_}
 use Rattle.graph.specs.Graph.Step.{To}
 use Rattle.steps.specs.Steps.{toTarget}
-use Rattle.steps.specs.Ways.{waySteps}
+use Rattle.steps.specs.mirror.Ways.{waySteps}
 use mathlib.Core.Path.{refl, _∙_}
 use Rattle.steps.proofs.Laws.{last-first, last-second, first-one}
 use borrow.Author.Needs.{needs}

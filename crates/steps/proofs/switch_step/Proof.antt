@@ -1,6 +1,6 @@
 use mathlib.Core.Path.{ap, _∙_}
 use Rattle.steps.proofs.Laws.{last-first, entry-zero, entry-last}
-use Rattle.steps.specs.Ways.{stepAs}
+use Rattle.steps.specs.mirror.Ways.{stepAs}
 use borrow.Author.Needs.{needs}
 use Rattle.steps.proofs.switch_step.Statement.{statement}
 use Rattle.steps.proofs.switch_step.Tie as tie

@@ -1,4 +1,4 @@
-use Rattle.steps.specs.Ways.{wayOf}
+use Rattle.steps.specs.mirror.Ways.{wayOf}
 use mathlib.Core.Path.{refl}
 use borrow.Author.Needs.{needs}
 use Rattle.steps.proofs.way_of.Statement.{statement}

@@ -3,7 +3,7 @@ use mathlib.Core.Path.{_≡_, _∙_}
 use denote.Ref.{now}
 use native.Mathlib.Omega.{arith}
 use Rattle.laws.specs.Scan.{firstFrom}
-use Rattle.store.specs.Falls.{lower}
+use Rattle.store.specs.mirror.Falls.{lower}
 use Rattle.store.proofs.Parts.{fall-near, fall-edge, fall-far, fall-behind}
 use borrow.Author.Needs.{needs}
 use Rattle.store.proofs.fall_by_parts.Statement.{statement}

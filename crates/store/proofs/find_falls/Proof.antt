@@ -7,7 +7,7 @@ use borrow.Author.Needs.{needs}
 use Rattle.laws.specs.Scan.{firstFrom}
 use Rattle.laws.proofs.Scan.{first-end, first-within}
 use Rattle.store.specs.Records.{slotOf}
-use Rattle.store.specs.Falls.{lower}
+use Rattle.store.specs.mirror.Falls.{lower}
 use Rattle.store.proofs.Parts.{Filled, filled-start, filled-next, filled-all, lower-next}
 use Rattle.store.proofs.find_falls.Statement.{statement}
 use Rattle.store.proofs.find_falls.Tie as tie

@@ -8,7 +8,8 @@ use mir.Syntax.{w64}
 use mir.Val.{SFits}
 use Rattle.laws.proofs.Tests.{fell}
 use Rattle.serializer.specs.declared.Elem.{Elem}
-use Rattle.targets.specs.Targets.{poolSearched, indexOf, smiOf}
+use Rattle.targets.specs.Targets.{indexOf, smiOf}
+use Rattle.targets.specs.mirror.Search.{poolSearched}
 use Rattle.targets.proofs.Cases.{not-index, not-smi}
 use Rattle.targets.proofs.Laws.{of-operand, of-pool, no-jump, no-distance, at-distance}
 use borrow.Author.Needs.{needs}

@@ -1,4 +1,4 @@
-use Rattle.targets.specs.Targets.{poolSearched}
+use Rattle.targets.specs.mirror.Search.{poolSearched}
 use borrow.Author.Needs.{needs}
 use Rattle.targets.proofs.pool_elem.Statement.{statement}
 use Rattle.targets.proofs.pool_elem.Tie as tie

@@ -8,7 +8,8 @@ use lib.ListN.{length, take}
 use lib.Seq.{take-all}
 use mathlib.Core.List.{List, append-assoc}
 use Rattle.text.specs.Put.{Put}
-use Rattle.text.specs.Texts.{Pairs, hexBytes}
+use Rattle.text.specs.Texts.{hexBytes}
+use Rattle.text.specs.mirror.Pairs.{Pairs}
 use Rattle.text.proofs.Put.{kept, then}
 use Rattle.text.proofs.Texts.{hexBytes-more, hexBytes-one}
 use Rattle.text.proofs.put_pairs.Statement.{statement}

@@ -4,19 +4,14 @@ use mathlib.Core.Path.{_≡_, sym, ap, _∙_}
 use native.Mathlib.Omega.{arith}
 use denote.Ref.{now}
 use lib.ListN.{length}
-use Rattle.graph.specs.Queue.{stepOf}
+use Rattle.graph.specs.mirror.Queue.{stepOf}
 use Rattle.graph.proofs.Steps.{ExitsFrom, exits-start, exits-done, exits-none, exits-off, exits-more, within}
-use Rattle.steps.specs.Ways.{stepAs}
-use Rattle.walk.specs.Search.{sourceOf, graphOf}
+use Rattle.steps.specs.mirror.Ways.{stepAs}
+use Rattle.walk.specs.mirror.Search.{sourceOf, graphOf}
 use Rattle.walk.proofs.Laws.{step-is, start-yes, start-no}
 use Rattle.graph.specs.Graph.{Graph}
 use Rattle.walk.proofs.exits.Statement.{statement}
 use Rattle.walk.proofs.exits.Tie as tie
-use Rattle.walk.proofs.exits.Reads as reads
-use Rattle.walk.proofs.exits.Lts as lts
-use Rattle.steps.proofs.step_of.Reads as step-of-reads
-use Rattle.walk.proofs.way_at.Reads as way-at-reads
-use Rattle.words.proofs.byte_at.Reads as byte-at-reads
 
 abbrev Inv-loop : tie.InvT-loop
 Inv-loop code opcodes types slots payload flows setup starts o pool way k₀ k = ExitsFrom (graphOf code opcodes types slots payload setup) o k
@@ -37,55 +32,42 @@ step c =
     let a = start (c .before) .args in
     step-is (sourceOf (now (a .code)) (now (a .opcodes)) (now (a .types)) (now (a .slots)) (now (a .payload)) (a .setup)) (a .o) (c .before .loop .k) (c .step-of .result) (c .step-of .ensures) (c .before .before .way-at .ensures)
 
--- src/lib.rt:124:9
 way-at-requires : tie.Need-way-at-requires Inv-loop μ-loop
 way-at-requires c κs = c .before .before .before .before .before .before .before .pre .0 .tabled
 
--- src/lib.rt:126:5
 loop-holds : tie.Need-loop-holds Inv-loop μ-loop
 loop-holds c = let a = c .before .before .before .before .before .before .before .before .args in exits-start _ (a .o)
 
--- src/lib.rt:127:13
 step-of-requires : tie.Need-step-of-requires Inv-loop μ-loop
 step-of-requires c κs = search needs
 
--- src/lib.rt:129:27
 enum-told : tie.Need-enum-told Inv-loop μ-loop
 enum-told c = search needs
 
--- src/lib.rt:129:27
 returns : tie.Need-returns Inv-loop μ-loop
 returns c = sym (exits-done _ _ _ (c .before .before .before .loop .inv) (sym (step (c .before .before)) ∙ ap stepAs (c .enum-told .given .1)))
 
--- src/lib.rt:130:31
 enum-told-2 : tie.Need-enum-told-2 Inv-loop μ-loop
 enum-told-2 c = search needs
 
--- src/lib.rt:130:31
 returns-2 : tie.Need-returns-2 Inv-loop μ-loop
 returns-2 c = sym (exits-none _ _ _ (c .before .before .before .loop .inv) (sym (step (c .before .before)) ∙ ap stepAs (c .enum-told2 .given .1)))
 
--- src/lib.rt:131:22
 enum-known-s : tie.Need-enum-known-s Inv-loop μ-loop
 enum-known-s c = search needs
 
--- src/lib.rt:132:20
 byte-at-requires : tie.Need-byte-at-requires Inv-loop μ-loop
 byte-at-requires c κs = search needs
 
--- src/lib.rt:133:21
 add-k : tie.Need-add-k Inv-loop μ-loop
 add-k c = omega (arith, within (start (c .before .before .before .before .before .before) .pre .0 .lawful) _ _ (sym (step (c .before .before .before .before .before)) ∙ ap stepAs (c .before .before .before .s .given .1)))
 
--- src/lib.rt:126:5
 loop-less : tie.Need-loop-less Inv-loop μ-loop
 loop-less c = omega (arith, within (start (c .before .before .before .before .before .before) .pre .0 .lawful) _ _ (sym (step (c .before .before .before .before .before)) ∙ ap stepAs (c .before .before .before .s .given .1)))
 
--- src/lib.rt:126:5
 loop-again : tie.Need-loop-again Inv-loop μ-loop
 loop-again c = exits-more _ _ _ (c .before .before .before .before .before .before .loop .inv) (sym (step (c .before .before .before .before .before)) ∙ ap stepAs (c .before .before .before .s .given .1)) (start-yes (the-graph (c .before .before .before .before .before .before)) (now (start (c .before .before .before .before .before .before) .args .starts)) (c .before .before .before .s .given .0 .0) (c .before .byte-at .result) (start (c .before .before .before .before .before .before) .pre .1) (c .before .byte-at .ensures) (c .if1 .taken))
 
--- src/lib.rt:135:21
 returns-3 : tie.Need-returns-3 Inv-loop μ-loop
 returns-3 c = sym (exits-off _ _ _ (c .before .before .before .before .before .before .loop .inv) (sym (step (c .before .before .before .before .before)) ∙ ap stepAs (c .before .before .before .s .given .1)) (start-no (the-graph (c .before .before .before .before .before .before)) (now (start (c .before .before .before .before .before .before) .args .starts)) (c .before .before .before .s .given .0 .0) (c .before .byte-at .result) (start (c .before .before .before .before .before .before) .pre .1) (c .before .byte-at .ensures) (c .if1 .left)))
 

@@ -5,18 +5,13 @@ use borrow.Author.Needs.{needs}
 use denote.Ref.{now}
 use lib.ListN.{length}
 use Rattle.graph.specs.Graph.{Graph}
-use Rattle.graph.specs.Queue.{Lowest}
+use Rattle.graph.specs.mirror.Queue.{Lowest}
 use Rattle.graph.proofs.Queues.{held-le}
 use Rattle.graph.proofs.Walks.{Level, level-start, level-next, level-leaves, level-closed}
 use Rattle.walk.specs.declared.Found.{Found}
-use Rattle.walk.specs.Search.{graphOf, foundAs}
+use Rattle.walk.specs.mirror.Search.{graphOf, foundAs}
 use Rattle.walk.proofs.levels.Statement.{statement}
 use Rattle.walk.proofs.levels.Tie as tie
-use Rattle.walk.proofs.levels.Reads as reads
-use Rattle.walk.proofs.levels.Lts as lts
-use Rattle.walk.proofs.lowest.Reads as lowest-reads
-use Rattle.walk.proofs.push.Reads as push-reads
-use Rattle.walk.proofs.push_level.Reads as push-level-reads
 
 abbrev Inv-loop : tie.InvT-loop
 Inv-loop code opcodes types slots payload flows setup starts marks₀ queue₀ lo₀ hi₀ d₀ marks queue lo hi d = Level (graphOf code opcodes types slots payload setup) marks queue lo hi d × (length marks ≡ length code) × (length queue ≡ length queue₀)
@@ -39,59 +34,47 @@ told : (c : tie.After-lowest Inv-loop μ-loop) (f : Found) → c .lowest .result
     → let i = c .before .before .before in Lowest (the-graph i) (i .loop .queue) (i .loop .lo) (i .loop .hi) (foundAs f)
 told c f e = let i = c .before .before .before in subst (λ (x : Found). Lowest (the-graph i) (i .loop .queue) (i .loop .lo) (i .loop .hi) (foundAs x)) e (c .lowest .ensures)
 
--- src/lib.rt:282:9
 push-requires : tie.Need-push-requires Inv-loop μ-loop
 push-requires c κs = let s = c .before .before .before .before .before .before .before .before .before .before .before in (s .pre .0, omega (arith, s .pre .1, s .pre .2))
 
--- src/lib.rt:284:5
 loop-holds : tie.Need-loop-holds Inv-loop μ-loop
-loop-holds c = (level-start (c .before .before .before .before .push .ensures), c .before .before .before .before .push .kept .0 ∙ c .before .before .before .before .before .before .before .before .before .before .before .before .before .before .before .before .pre .1, refl)
+loop-holds c = (level-start (c .before .before .before .before .before .before .before .before .before .before .before .before .before .before .before .before .pre .5) (c .before .before .before .before .push .ensures), c .before .before .before .before .push .kept .0 ∙ c .before .before .before .before .before .before .before .before .before .before .before .before .before .before .before .before .pre .1, refl)
 
--- src/lib.rt:285:13
 lowest-requires : tie.Need-lowest-requires Inv-loop μ-loop
 lowest-requires c κs =
     let l = c .before .before .loop .inv .0 in
     let s = start (c .before .before) in
     (l .order, omega (arith, held-le (l .held), l .held .room), s .pre .3, s .pre .4)
 
--- src/lib.rt:288:26
 enum-known-f : tie.Need-enum-known-f Inv-loop μ-loop
 enum-known-f c = search needs
 
--- src/lib.rt:289:25
 add-steps : tie.Need-add-steps Inv-loop μ-loop
 add-steps c = let l = c .before .before .before .before .before .before .loop .inv .0 in omega (arith, l .depth, l .order, held-le (l .held), l .held .small)
 
--- src/lib.rt:290:13
 same-length : tie.Need-same-length Inv-loop μ-loop
 same-length c = c .before .before .before .before .before .before .loop .inv .1 ∙ sym (start (c .before .before .before .before .before .before) .pre .1)
 
--- src/lib.rt:290:13
 same-length-2 : tie.Need-same-length-2 Inv-loop μ-loop
 same-length-2 c = c .before .before .before .before .before .before .loop .inv .2 ∙ pushed (c .before .before .before .before .before .before) .push .kept .1 .0
 
--- src/lib.rt:290:13
 returns : tie.Need-returns Inv-loop μ-loop
 returns c = level-leaves (c .before .before .before .before .before .before .loop .inv .0) (told (c .before .before .before) _ (c .before .f .given .1)) _
 
 enum-told : tie.Need-enum-told Inv-loop μ-loop
 enum-told c = search needs
 
--- src/lib.rt:292:13
 push-level-requires : tie.Need-push-level-requires Inv-loop μ-loop
 push-level-requires c κs =
     let i = c .before .before .before .before .before .before .before in
     (i .loop .inv .0 .held, i .loop .inv .1, i .loop .inv .0 .order, told (c .before .before .before .before) _ (c .before .before .enum-told .given .1), start i .pre .3)
 
--- src/lib.rt:297:9
 add-d : tie.Need-add-d Inv-loop μ-loop
 add-d c = let l = c .before .before .before .before .before .before .before .before .before .before .before .before .loop .inv .0 in omega (arith, l .depth, l .order, held-le (l .held), l .held .small)
 
--- src/lib.rt:284:5
 loop-less : tie.Need-loop-less Inv-loop μ-loop
 loop-less c = omega (arith, held-le (c .before .before .before .before .before .before .before .before .before .before .before .before .loop .inv .0 .held), c .before .before .before .before .before .before .before .before .before .before .before .before .loop .inv .1, c .before .before .before .before .before .before .before .before .before .before .before .loop-test .taken)
 
--- src/lib.rt:284:5
 loop-again : tie.Need-loop-again Inv-loop μ-loop
 loop-again c =
     let i = c .before .before .before .before .before .before .before .before .before .before .before .before in (
@@ -100,15 +83,12 @@ loop-again c =
       c .before .before .before .before .push-level .kept .1 .1 .1 .1 .1 .1 .1 .1 .0 ∙ i .loop .inv .2,
     )
 
--- src/lib.rt:266:1
 same-length-3 : tie.Need-same-length-3 Inv-loop μ-loop
 same-length-3 c = c .before .loop .inv .1 ∙ sym (start (c .before) .pre .1)
 
--- src/lib.rt:266:1
 same-length-4 : tie.Need-same-length-4 Inv-loop μ-loop
 same-length-4 c = c .before .loop .inv .2 ∙ pushed (c .before) .push .kept .1 .0
 
--- src/lib.rt:266:1
 returns-2 : tie.Need-returns-2 Inv-loop μ-loop
 returns-2 c = level-closed (c .before .loop .inv .0) (c .loop-test .left) _
 

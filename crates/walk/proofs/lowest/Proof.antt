@@ -5,16 +5,11 @@ use native.Mathlib.Omega.{arith}
 use borrow.Author.Needs.{needs}
 use denote.Ref.{now}
 use Rattle.graph.specs.Graph.{Graph}
-use Rattle.graph.specs.Queue.{Lowest}
+use Rattle.graph.specs.mirror.Queue.{Lowest}
 use Rattle.graph.proofs.Scan.{lowest-found, lowest-passed}
-use Rattle.walk.specs.Search.{graphOf, foundAs}
+use Rattle.walk.specs.mirror.Search.{graphOf, foundAs}
 use Rattle.walk.proofs.lowest.Statement.{statement}
 use Rattle.walk.proofs.lowest.Tie as tie
-use Rattle.walk.proofs.lowest.Reads as reads
-use Rattle.walk.proofs.lowest.Lts as lts
-use Rattle.walk.proofs.exits.Reads as exits-reads
-use Rattle.walk.proofs.lower.Reads as lower-reads
-use Rattle.walk.proofs.wide16.Reads as wide16-reads
 
 abbrev Inv-loop : tie.InvT-loop
 Inv-loop code opcodes types slots payload flows setup starts queue lo hi i₀ f₀ i f = (lo ≤ i) × (i ≤ hi) × Lowest (graphOf code opcodes types slots payload setup) queue lo i (foundAs f)
@@ -22,35 +17,27 @@ Inv-loop code opcodes types slots payload flows setup starts queue lo hi i₀ f�
 abbrev μ-loop : tie.MeasureT-loop
 μ-loop code opcodes types slots payload flows setup starts queue lo hi i₀ f₀ i f = hi - i
 
--- src/lib.rt:165:5
 loop-holds : tie.Need-loop-holds Inv-loop μ-loop
 loop-holds c = (le-refl _, c .before .before .before .before .before .before .before .before .pre .0, λ i l u. absurd (omega arith))
 
--- src/lib.rt:166:24
 mul-wide16 : tie.Need-mul-wide16 Inv-loop μ-loop
 mul-wide16 c = search needs
 
--- src/lib.rt:166:24
 shared-slice-read-wide16 : tie.Need-shared-slice-read-wide16 Inv-loop μ-loop
 shared-slice-read-wide16 c = search needs
 
--- src/lib.rt:166:13
 wide16-requires : tie.Need-wide16-requires Inv-loop μ-loop
 wide16-requires c κs = search needs
 
--- src/lib.rt:167:9
 add-i : tie.Need-add-i Inv-loop μ-loop
 add-i c = search needs
 
--- src/lib.rt:168:12
 exits-requires : tie.Need-exits-requires Inv-loop μ-loop
 exits-requires c κs = (c .before .before .before .before .before .before .before .before .before .before .before .before .pre .2, c .before .before .before .before .before .before .before .before .before .before .before .before .pre .3)
 
--- src/lib.rt:169:13
 lower-requires : tie.Need-lower-requires Inv-loop μ-loop
 lower-requires c κs = search needs
 
--- src/lib.rt:165:5
 loop-less : tie.Need-loop-less Inv-loop μ-loop
 loop-less c = search needs
 
@@ -60,23 +47,19 @@ start i = i .before .before .before .before .before .before .before .before .bef
 abbrev the-graph : tie.At-loop Inv-loop μ-loop → Graph
 the-graph i = let a = start i .args in graphOf (now (a .code)) (now (a .opcodes)) (now (a .types)) (now (a .slots)) (now (a .payload)) (a .setup)
 
--- src/lib.rt:165:5
 loop-again : tie.Need-loop-again Inv-loop μ-loop
 loop-again c =
     let i = c .before .before .before .before .before .before in
     (omega arith, omega arith, lowest-found (the-graph i) (now (start i .args .queue)) (start i .args .lo) (i .loop .i) (foundAs (i .loop .f)) _ _ (c .before .before .before .wide16 .ensures) (i .loop .inv .0) (sym (c .before .before .exits .ensures) ∙ c .before .if1 .taken) (c .lower .ensures) (i .loop .inv .2))
 
--- src/lib.rt:165:5
 loop-less-2 : tie.Need-loop-less-2 Inv-loop μ-loop
 loop-less-2 c = search needs
 
--- src/lib.rt:165:5
 loop-again-2 : tie.Need-loop-again-2 Inv-loop μ-loop
 loop-again-2 c =
     let i = c .before .before .before .before .before in
     (omega arith, omega arith, lowest-passed (the-graph i) (now (start i .args .queue)) (start i .args .lo) (i .loop .i) (foundAs (i .loop .f)) _ (c .before .before .wide16 .ensures) (sym (c .before .exits .ensures) ∙ c .if1 .left) (i .loop .inv .2))
 
--- src/lib.rt:147:1
 returns : tie.Need-returns Inv-loop μ-loop
 returns c =
     let i = c .before in

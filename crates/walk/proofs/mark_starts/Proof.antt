@@ -16,20 +16,12 @@ use Rattle.flow.specs.Flow.{flowOf, flowBy}
 use Rattle.flow.specs.declared.Flow.{Flow}
 use Rattle.targets.specs.Targets.{jumpTable, found}
 use Rattle.targets.specs.declared.Table.{Table}
-use Rattle.disasm.specs.Lines.{tableCheck}
+use Rattle.function.specs.Code.{tableCheck}
 use Rattle.steps.proofs.Same.{own-offset}
 use Rattle.walk.proofs.Laws.{decoded-is}
 use Rattle.walk.proofs.Starts.{Marking, as-long, marking-start, marking-end, done-at, refused-at, end-at}
 use Rattle.walk.proofs.mark_starts.Statement.{statement}
 use Rattle.walk.proofs.mark_starts.Tie as tie
-use Rattle.walk.proofs.mark_starts.Reads as reads
-use Rattle.walk.proofs.mark_starts.Lts as lts
-use Rattle.decoder.proofs.decode_at.Reads as decode-at-reads
-use Rattle.disasm.proofs.table_check.Reads as table-check-reads
-use Rattle.flow.proofs.flow_by.Reads as flow-by-reads
-use Rattle.refusal.proofs.or_else.Reads as or-else-reads
-use Rattle.targets.proofs.jump_table.Reads as jump-table-reads
-use Rattle.words.proofs.byte_at.Reads as byte-at-reads
 
 abbrev Inv-loop : tie.InvT-loop
 Inv-loop code opcodes types flows setup starts₀ pool check₀ i₀ starts check i = Marking opcodes setup (decodes code opcodes types (setup .rfs)) (length code) starts check i
@@ -37,7 +29,6 @@ Inv-loop code opcodes types flows setup starts₀ pool check₀ i₀ starts chec
 abbrev μ-loop : tie.MeasureT-loop
 μ-loop code opcodes types flows setup starts₀ pool check₀ i₀ starts check i = length code - i
 
--- src/lib.rt:63:5
 loop-holds : tie.Need-loop-holds Inv-loop μ-loop
 loop-holds c = let a = c .before .before .before .before .before .args in marking-start _ _ _ _ (now (a .starts)) (c .before .before .before .before .before .pre .1)
 
@@ -48,59 +39,45 @@ is c =
     let f : SFits w32 (a .setup .rfs) = record { sfits = c .before .struct-told .given .1 .1 .0 .1 } in
     simp (toZ-ofZ f) at (c .decode-at .ensures) ∙ decoded-is (now (a .code)) (now (a .types)) (a .setup .rfs) (c .before .before .before .loop .i) (c .before .before .before .before .before .before .before .before .before .pre .0)
 
--- src/lib.rt:64:13
 decode-at-requires : tie.Need-decode-at-requires Inv-loop μ-loop
 decode-at-requires c κs = search needs
 
--- src/lib.rt:68:30
 enum-known-outcome : tie.Need-enum-known-outcome Inv-loop μ-loop
 enum-known-outcome c = search needs
 
--- src/lib.rt:68:42
 same-length : tie.Need-same-length Inv-loop μ-loop
 same-length c = as-long (length (now (c .before .before .before .before .before .before .before .before .before .before .before .before .before .args .code))) (c .before .before .before .before .before .before .before .loop .starts) (now (c .before .before .before .before .before .before .before .before .before .before .before .before .before .args .starts)) (c .before .before .before .before .before .before .before .loop .inv .kept) (c .before .before .before .before .before .before .before .before .before .before .before .before .before .pre .1)
 
--- src/lib.rt:68:42
 returns : tie.Need-returns Inv-loop μ-loop
 returns c = refused-at _ _ _ _ (c .before .before .before .before .before .before .before .loop .inv) (c .before .before .before .before .decode-at .result) (is (c .before .before .before .before)) (c .before .outcome .given .0 .0) (c .before .outcome .given .1)
 
--- src/lib.rt:69:29
 enum-told : tie.Need-enum-told Inv-loop μ-loop
 enum-told c = search needs
 
--- src/lib.rt:69:29
 same-length-2 : tie.Need-same-length-2 Inv-loop μ-loop
 same-length-2 c = as-long (length (now (c .before .before .before .before .before .before .before .before .before .before .before .before .args .code))) (c .before .before .before .before .before .before .loop .starts) (now (c .before .before .before .before .before .before .before .before .before .before .before .before .args .starts)) (c .before .before .before .before .before .before .loop .inv .kept) (c .before .before .before .before .before .before .before .before .before .before .before .before .pre .1)
 
--- src/lib.rt:69:29
 returns-2 : tie.Need-returns-2 Inv-loop μ-loop
 returns-2 c = end-at _ _ _ _ (c .before .before .before .before .before .before .loop .inv) (c .before .before .before .decode-at .result) (is (c .before .before .before)) (c .enum-told .given .1)
 
--- src/lib.rt:71:64
 enum-told-2 : tie.Need-enum-told-2 Inv-loop μ-loop
 enum-told-2 c = search needs
 
--- src/lib.rt:71:64
 cast-byte-at : tie.Need-cast-byte-at Inv-loop μ-loop
 cast-byte-at c = search needs
 
--- src/lib.rt:71:42
 byte-at-requires : tie.Need-byte-at-requires Inv-loop μ-loop
 byte-at-requires c κs = search needs
 
--- src/lib.rt:71:21
 flow-by-requires : tie.Need-flow-by-requires Inv-loop μ-loop
 flow-by-requires c κs = search needs
 
--- src/lib.rt:72:21
 jump-table-requires : tie.Need-jump-table-requires Inv-loop μ-loop
 jump-table-requires c κs = search needs
 
--- src/lib.rt:73:49
 table-check-requires : tie.Need-table-check-requires Inv-loop μ-loop
 table-check-requires c κs = search needs
 
--- src/lib.rt:73:17
 or-else-requires : tie.Need-or-else-requires Inv-loop μ-loop
 or-else-requires c κs = search needs
 
@@ -121,15 +98,12 @@ progress c =
 flow-is : (c : tie.After-flow-by Inv-loop μ-loop) → c .flow-by .result ≡ flowOf (now (c .before .before .before .before .before .before .before .before .before .before .before .before .before .before .before .args .opcodes)) (c .before .before .before .before .before .before .decode-at .result .instr .opcode)
 flow-is c = c .flow-by .ensures ∙ ap flowBy (c .before .byte-at .ensures ∙ c .before .before .before .before .before .before .before .before .before .before .before .before .before .before .before .pre .0 .numbers (c .before .before .before .before .before .before .decode-at .result .instr .opcode) (omega (arith, c .before .before .struct-known .given)))
 
--- src/lib.rt:74:17
 slice-write-starts : tie.Need-slice-write-starts Inv-loop μ-loop
 slice-write-starts c = omega (arith, c .before .before .before .before .before .before .before .before .before .before .before .before .loop .inv .kept, c .before .before .before .before .before .before .before .before .before .before .before .loop-test .taken)
 
--- src/lib.rt:63:5
 loop-less : tie.Need-loop-less Inv-loop μ-loop
 loop-less c = let q = progress (c .before .before .before .before .before) in omega (arith, q .0, q .1)
 
--- src/lib.rt:63:5
 loop-again : tie.Need-loop-again Inv-loop μ-loop
 loop-again c =
     let a = c .before .before .before .before .before .before .before .before .before .before .before .before .before .before .before .before .before .before .args in
@@ -140,16 +114,14 @@ loop-again c =
     let k = c .or-else .ensures ∙ ap (orElse (l .check)) (c .before .table-check .ensures ∙ ap (λ (z : Table). tableCheck z (x .instr .offset)) t) in
     done-at _ _ _ _ (l .inv) x (is (c .before .before .before .before .before .before .before .before .before)) (c .or-else .result) (c .before .before .before .before .before .before .enum-told2 .given .1) (q .0) (q .1) (q .2) k
 
--- src/lib.rt:49:1
 same-length-3 : tie.Need-same-length-3 Inv-loop μ-loop
 same-length-3 c = as-long (length (now (c .before .before .before .before .before .before .before .args .code))) (c .before .loop .starts) (now (c .before .before .before .before .before .before .before .args .starts)) (c .before .loop .inv .kept) (c .before .before .before .before .before .before .before .pre .1)
 
--- src/lib.rt:49:1
 returns-3 : tie.Need-returns-3 Inv-loop μ-loop
 returns-3 c =
     let a = c .before .before .before .before .before .before .before .args in
     let l = c .before .loop in
-    let e : l .i ≡ length (now (a .code)) = omega (arith, l .inv .inside, c .loop-test .left) in
+    let e : l .i ≡ length (now (a .code)) = omega (arith, l .inv .going .inside, c .loop-test .left) in
     marking-end _ _ _ _ (l .inv) (decode-end (now (a .code)) (now (a .opcodes)) (now (a .types)) (a .setup .rfs) (prefixOp (now (a .opcodes)) 1) (prefixOp (now (a .opcodes)) 2) (l .i) e)
 
 pub mark-starts-spec : {M : Type 1} → statement M

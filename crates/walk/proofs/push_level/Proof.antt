@@ -6,16 +6,12 @@ use borrow.Author.Needs.{needs}
 use denote.Ref.{now}
 use lib.ListN.{length}
 use Rattle.graph.specs.Graph.{Graph, exits}
-use Rattle.graph.specs.Queue.{Grown, SuccIn}
+use Rattle.graph.specs.mirror.Queue.{Grown, SuccIn}
 use Rattle.graph.proofs.Queues.{grown-none, held-le}
 use Rattle.graph.proofs.Scan.{level-more}
-use Rattle.walk.specs.Search.{graphOf}
+use Rattle.walk.specs.mirror.Search.{graphOf}
 use Rattle.walk.proofs.push_level.Statement.{statement}
 use Rattle.walk.proofs.push_level.Tie as tie
-use Rattle.walk.proofs.push_level.Reads as reads
-use Rattle.walk.proofs.push_level.Lts as lts
-use Rattle.walk.proofs.push_steps.Reads as push-steps-reads
-use Rattle.walk.proofs.wide16.Reads as wide16-reads
 
 abbrev Inv-loop : tie.InvT-loop
 Inv-loop code opcodes types slots payload flows setup marks₀ queue₀ lo hi end₀ i₀ marks queue end i = (lo ≤ i) × (i ≤ hi) × Grown queue₀ hi marks queue end (SuccIn (graphOf code opcodes types slots payload setup) queue₀ lo i) × (length marks ≡ length marks₀) × (length queue ≡ length queue₀)
@@ -23,19 +19,15 @@ Inv-loop code opcodes types slots payload flows setup marks₀ queue₀ lo hi en
 abbrev μ-loop : tie.MeasureT-loop
 μ-loop code opcodes types slots payload flows setup marks₀ queue₀ lo hi end₀ i₀ marks queue end i = hi - i
 
--- src/lib.rt:255:5
 loop-holds : tie.Need-loop-holds Inv-loop μ-loop
 loop-holds c = (le-refl _, c .before .before .before .before .before .before .before .before .pre .2, grown-none (c .before .before .before .before .before .before .before .before .pre .0) (λ p x. absurd (omega (arith, x .1, x .2))), refl, refl)
 
--- src/lib.rt:256:24
 mul-wide16 : tie.Need-mul-wide16 Inv-loop μ-loop
 mul-wide16 c = let s = c .before .before .before .before .before .before .before .before .before .before in omega (arith, held-le (s .pre .0), s .pre .0 .small, c .loop-test .taken)
 
--- src/lib.rt:256:24
 slice-read-wide16 : tie.Need-slice-read-wide16 Inv-loop μ-loop
 slice-read-wide16 c = let s = c .before .before .before .before .before .before .before .before .before .before .before in omega (arith, held-le (s .pre .0), s .pre .0 .room, c .before .loop-test .taken, c .before .before .loop .inv .4)
 
--- src/lib.rt:256:13
 wide16-requires : tie.Need-wide16-requires Inv-loop μ-loop
 wide16-requires c κs = search needs
 
@@ -45,7 +37,6 @@ start i = i .before .before .before .before .before .before .before .before .bef
 abbrev the-graph : tie.At-loop Inv-loop μ-loop → Graph
 the-graph i = let a = start i .args in graphOf (now (a .code)) (now (a .opcodes)) (now (a .types)) (now (a .slots)) (now (a .payload)) (a .setup)
 
--- src/lib.rt:257:9
 push-steps-requires : tie.Need-push-steps-requires Inv-loop μ-loop
 push-steps-requires c κs =
     let i = c .before .before .before .before .before in
@@ -57,15 +48,12 @@ push-steps-requires c κs =
       s .pre .4,
     )
 
--- src/lib.rt:260:9
 add-i : tie.Need-add-i Inv-loop μ-loop
 add-i c = omega (arith, c .before .before .before .before .before .before .before .before .before .loop-test .taken)
 
--- src/lib.rt:255:5
 loop-less : tie.Need-loop-less Inv-loop μ-loop
 loop-less c = omega (arith, c .before .before .before .before .before .before .before .before .before .loop-test .taken)
 
--- src/lib.rt:255:5
 loop-again : tie.Need-loop-again Inv-loop μ-loop
 loop-again c =
     let i = c .before .before .before .before .before .before .before .before .before .before in
@@ -77,15 +65,12 @@ loop-again c =
       c .before .before .before .before .push-steps .kept .1 .1 .1 .1 .1 .1 .1 .1 .1 .0 ∙ i .loop .inv .4,
     )
 
--- src/lib.rt:237:1
 same-length : tie.Need-same-length Inv-loop μ-loop
 same-length c = c .before .loop .inv .3
 
--- src/lib.rt:237:1
 same-length-2 : tie.Need-same-length-2 Inv-loop μ-loop
 same-length-2 c = c .before .loop .inv .4
 
--- src/lib.rt:237:1
 returns : tie.Need-returns Inv-loop μ-loop
 returns c =
     let i = c .before in

@@ -5,19 +5,14 @@ use borrow.Author.Needs.{needs}
 use denote.Ref.{now}
 use lib.ListN.{length}
 use Rattle.graph.specs.Graph.{Graph}
-use Rattle.graph.specs.Queue.{Grown, stepOf}
+use Rattle.graph.specs.mirror.Queue.{Grown, stepOf}
 use Rattle.graph.proofs.Queues.{grown-none}
 use Rattle.graph.proofs.Steps.{Before, grown-done, grown-more, quiet-none, quiet-to, within}
-use Rattle.steps.specs.Ways.{stepAs}
-use Rattle.walk.specs.Search.{sourceOf, graphOf}
+use Rattle.steps.specs.mirror.Ways.{stepAs}
+use Rattle.walk.specs.mirror.Search.{sourceOf, graphOf}
 use Rattle.walk.proofs.Laws.{step-is}
 use Rattle.walk.proofs.push_steps.Statement.{statement}
 use Rattle.walk.proofs.push_steps.Tie as tie
-use Rattle.walk.proofs.push_steps.Reads as reads
-use Rattle.walk.proofs.push_steps.Lts as lts
-use Rattle.steps.proofs.step_of.Reads as step-of-reads
-use Rattle.walk.proofs.push.Reads as push-reads
-use Rattle.walk.proofs.way_at.Reads as way-at-reads
 
 abbrev Inv-loop : tie.InvT-loop
 Inv-loop code opcodes types slots payload flows setup o marks₀ queue₀ tail pool way end₀ k₀ marks queue end k = Grown queue₀ tail marks queue end (Before (graphOf code opcodes types slots payload setup) o k) × (length marks ≡ length marks₀) × (length queue ≡ length queue₀)
@@ -37,70 +32,54 @@ step c =
     let a = start (c .before) .args in
     step-is (sourceOf (now (a .code)) (now (a .opcodes)) (now (a .types)) (now (a .slots)) (now (a .payload)) (a .setup)) (a .o) (c .before .loop .k) (c .step-of .result) (c .step-of .ensures) (c .before .before .way-at .ensures)
 
--- src/lib.rt:220:9
 way-at-requires : tie.Need-way-at-requires Inv-loop μ-loop
 way-at-requires c κs = c .before .before .before .before .before .before .before .before .pre .3 .tabled
 
--- src/lib.rt:223:5
 loop-holds : tie.Need-loop-holds Inv-loop μ-loop
 loop-holds c = (grown-none (c .before .before .before .before .before .before .before .before .before .pre .0) (λ p x. absurd (omega (arith, x .below))), refl, refl)
 
--- src/lib.rt:224:13
 step-of-requires : tie.Need-step-of-requires Inv-loop μ-loop
 step-of-requires c κs = search needs
 
--- src/lib.rt:226:27
 enum-told : tie.Need-enum-told Inv-loop μ-loop
 enum-told c = search needs
 
--- src/lib.rt:226:27
 same-length : tie.Need-same-length Inv-loop μ-loop
 same-length c = c .before .before .before .loop .inv .1
 
--- src/lib.rt:226:27
 same-length-2 : tie.Need-same-length-2 Inv-loop μ-loop
 same-length-2 c = c .before .before .before .loop .inv .2
 
--- src/lib.rt:226:27
 returns : tie.Need-returns Inv-loop μ-loop
 returns c = grown-done _ (c .before .before .before .loop .inv .0) (sym (step (c .before .before)) ∙ ap stepAs (c .enum-told .given .1))
 
--- src/lib.rt:227:31
 enum-told-2 : tie.Need-enum-told-2 Inv-loop μ-loop
 enum-told-2 c = search needs
 
--- src/lib.rt:227:31
 same-length-3 : tie.Need-same-length-3 Inv-loop μ-loop
 same-length-3 c = c .before .before .before .loop .inv .1
 
--- src/lib.rt:227:31
 same-length-4 : tie.Need-same-length-4 Inv-loop μ-loop
 same-length-4 c = c .before .before .before .loop .inv .2
 
--- src/lib.rt:227:31
 returns-2 : tie.Need-returns-2 Inv-loop μ-loop
 returns-2 c = absurd (quiet-none (the-graph (c .before .before .before)) (start (c .before .before .before) .args .o) (c .before .before .before .loop .k) (start (c .before .before .before) .pre .2) (sym (step (c .before .before)) ∙ ap stepAs (c .enum-told2 .given .1)))
 
--- src/lib.rt:228:22
 enum-known-s : tie.Need-enum-known-s Inv-loop μ-loop
 enum-known-s c = search needs
 
--- src/lib.rt:229:17
 push-requires : tie.Need-push-requires Inv-loop μ-loop
 push-requires c κs =
     let i = c .before .before .before .before .before .before in
     let s = start i in
     (i .loop .inv .0 .held, omega (arith, s .pre .3 .lawful .inside _ (quiet-to (the-graph i) (s .args .o) (i .loop .k) (s .pre .2) (sym (step (c .before .before .before .before .before)) ∙ ap stepAs (c .before .before .before .s .given .1))), i .loop .inv .1, s .pre .1))
 
--- src/lib.rt:230:17
 add-k : tie.Need-add-k Inv-loop μ-loop
 add-k c = omega (arith, within (start (c .before .before .before .before .before .before .before .before .before .before .before) .pre .3 .lawful) _ _ (sym (step (c .before .before .before .before .before .before .before .before .before .before)) ∙ ap stepAs (c .before .before .before .before .before .before .before .before .s .given .1)))
 
--- src/lib.rt:223:5
 loop-less : tie.Need-loop-less Inv-loop μ-loop
 loop-less c = omega (arith, within (start (c .before .before .before .before .before .before .before .before .before .before .before) .pre .3 .lawful) _ _ (sym (step (c .before .before .before .before .before .before .before .before .before .before)) ∙ ap stepAs (c .before .before .before .before .before .before .before .before .s .given .1)))
 
--- src/lib.rt:223:5
 loop-again : tie.Need-loop-again Inv-loop μ-loop
 loop-again c =
     let i = c .before .before .before .before .before .before .before .before .before .before .before in

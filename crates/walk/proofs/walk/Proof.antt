@@ -4,51 +4,39 @@ use Prim.Native.Nat.{ℕ}
 use denote.Ref.{now}
 use Rattle.refusal.specs.Check.{orElse}
 use Rattle.store.specs.declared.Object.{Object}
-use Rattle.disasm.specs.Listing.{Files, checkFiles}
+use Rattle.function.specs.Files.{Files, checkFiles}
+use Rattle.function.specs.Code.{headerCheck, headerAt}
 use Rattle.walk.specs.declared.Walked.{Walked}
-use Rattle.walk.specs.Walk.{walkCall, objectSource, headerCheck, headerAt}
-use Rattle.walk.specs.Search.{walkSearched}
+use Rattle.walk.specs.Walk.{walkCall, objectSource}
+use Rattle.walk.specs.mirror.Search.{walkSearched}
 use Rattle.walk.proofs.Answers.{promise-unless}
 use Rattle.walk.proofs.Searched.{walked-searched}
 use borrow.Author.Needs.{needs}
 use Rattle.walk.proofs.walk.Statement.{statement}
 use Rattle.walk.proofs.walk.Tie as tie
-use Rattle.walk.proofs.walk.Reads as reads
-use Rattle.walk.proofs.walk.Lts as lts
-use Rattle.disasm.proofs.check_files.Reads as check-files-reads
-use Rattle.store.proofs.object_of.Reads as object-of-reads
-use Rattle.walk.proofs.walk_object.Reads as walk-object-reads
 
--- src/lib.rt:63:9
 check-files-requires : tie.Need-check-files-requires
 check-files-requires c κs = search needs
 
--- src/lib.rt:67:24
 enum-known-check : tie.Need-enum-known-check
 enum-known-check c = search needs
 
--- src/lib.rt:69:13
 enum-told : tie.Need-enum-told
 enum-told c = search needs
 
--- src/lib.rt:78:13
 object-of-requires : tie.Need-object-of-requires
 object-of-requires c κs = search needs
 
--- src/lib.rt:68:22
 walk-object-requires : tie.Need-walk-object-requires
 walk-object-requires c κs = search needs
 
--- src/lib.rt:49:1
 returns : tie.Need-returns
 unfolding walkCall
 returns c = (rw (← c .before .before .before .check-files .ensures, c .before .check .given .1) (refl, refl), tt)
 
--- src/lib.rt:49:1
 same-length : tie.Need-same-length
 same-length c = search needs
 
--- src/lib.rt:49:1
 returns-2 : tie.Need-returns-2
 unfolding walkCall
 returns-2 c =

@@ -1,4 +1,4 @@
-use Rattle.steps.specs.Ways.{searchGraph}
+use Rattle.steps.specs.mirror.Ways.{searchGraph}
 use mathlib.Core.Path.{sym, ap, _∙_}
 use Prim.Native.Nat.{ℕ}
 use native.Mathlib.Omega.{arith}
@@ -6,42 +6,30 @@ use denote.Ref.{now}
 use lib.ListN.{length, replicate}
 use lib.Seq.{length-take-le}
 use Rattle.steps.specs.Steps.{Source}
-use Rattle.walk.specs.Search.{sourceOf}
+use Rattle.walk.specs.mirror.Search.{sourceOf}
 use Rattle.walk.proofs.Answers.{no-fault, ended, source-refused, source-empty, source-short, source-found}
 use borrow.Author.Needs.{needs}
 use Rattle.walk.proofs.walk_in.Statement.{statement}
 use Rattle.walk.proofs.walk_in.Tie as tie
-use Rattle.walk.proofs.walk_in.Reads as reads
-use Rattle.walk.proofs.walk_in.Lts as lts
-use Rattle.walk.proofs.clear.Reads as clear-reads
-use Rattle.walk.proofs.mark_starts.Reads as mark-starts-reads
-use Rattle.walk.proofs.search.Reads as search-reads
 
--- src/lib.rt:354:13
 slice-relend-prefix-s : tie.Need-slice-relend-prefix-s
 slice-relend-prefix-s c = search needs
 
--- src/lib.rt:354:9
 slice-aggregate-s : tie.Need-slice-aggregate-s
 slice-aggregate-s c = sym (length-take-le _ _ (omega (arith, c .before .before .before .before .before .before .before .before .before .before .pre .1)))
 
--- src/lib.rt:355:5
 clear-requires : tie.Need-clear-requires
 clear-requires c κs = search needs
 
--- src/lib.rt:356:9
 mark-starts-requires : tie.Need-mark-starts-requires
 mark-starts-requires c κs = let s = c .before .before .before .before .before .before .before .before .before .before .before .before .before .before .before in (s .pre .3, c .before .before .before .clear .ensures ∙ ap (λ (k : ℕ). replicate k 0) (length-take-le (length (now (s .args .code))) (now (s .args .starts)) (omega (arith, s .pre .1))))
 
--- src/lib.rt:358:24
 enum-known-check : tie.Need-enum-known-check
 enum-known-check c = search needs
 
--- src/lib.rt:360:16
 enum-told : tie.Need-enum-told
 enum-told c = search needs
 
--- src/lib.rt:361:17
 same-length : tie.Need-same-length
 same-length c = search needs
 
@@ -49,27 +37,21 @@ same-length c = search needs
 abbrev source : tie.Start → Source
 source s = let a = s .args in sourceOf (now (a .code)) (now (a .opcodes)) (now (a .types)) (now (a .slots)) (now (a .payload)) (a .setup)
 
--- src/lib.rt:361:17
 returns : tie.Need-returns
 returns c = source-empty (source (c .before .before .before .before .before .before .before .before .before .before .before .before .before .before .before .before .before .before .before .before .before .before .before)) (now (c .before .before .before .before .before .before .before .before .before .before .before .before .before .before .before .before .before .before .before .before .before .before .before .args .marks)) (sym (c .before .before .before .enum-told .given .1) ∙ c .before .before .before .before .before .before .before .mark-starts .ensures .checked) (c .before .before .if1 .taken)
 
--- src/lib.rt:367:17
 same-length-2 : tie.Need-same-length-2
 same-length-2 c = search needs
 
--- src/lib.rt:367:17
 returns-2 : tie.Need-returns-2
 returns-2 c = source-short (source (c .before .before .before .before .before .before .before .before .before .before .before .before .before .before .before .before .before .before .before .before .before .before .before .before)) (now (c .before .before .before .before .before .before .before .before .before .before .before .before .before .before .before .before .before .before .before .before .before .before .before .before .args .marks)) (sym (c .before .before .before .before .enum-told .given .1) ∙ c .before .before .before .before .before .before .before .before .mark-starts .ensures .checked) (c .before .before .before .if1 .left) (c .before .before .if2 .taken)
 
--- src/lib.rt:381:17
 slice-relend-prefix-search : tie.Need-slice-relend-prefix-search
 slice-relend-prefix-search c = search needs
 
--- src/lib.rt:381:17
 slice-aggregate-search : tie.Need-slice-aggregate-search
 slice-aggregate-search c = sym (length-take-le _ _ (omega (arith, c .before .before .if2 .left)))
 
--- src/lib.rt:372:13
 search-requires : tie.Need-search-requires
 unfolding searchGraph
 search-requires c κs =
@@ -84,27 +66,21 @@ search-requires c κs =
       c .before .before .before .before .before .before .before .before .before .mark-starts .ensures .starts (no-fault (source s) ok),
     )
 
--- src/lib.rt:338:1
 same-length-3 : tie.Need-same-length-3
 same-length-3 c = search needs
 
--- src/lib.rt:338:1
 returns-3 : tie.Need-returns-3
 returns-3 c = source-refused (source (c .before .before .before .before .before .before .before .before .before .before .before .before .before .before .before .before .before .before .before .before .before .before .before)) (now (c .before .before .before .before .before .before .before .before .before .before .before .before .before .before .before .before .before .before .before .before .before .before .before .args .marks)) (c .before .before .before .check .given .0 .0) (sym (c .before .before .before .check .given .1) ∙ c .before .before .before .before .before .before .before .mark-starts .ensures .checked)
 
--- src/lib.rt:338:1
 same-length-4 : tie.Need-same-length-4
 same-length-4 c = search needs
 
--- src/lib.rt:338:1
 same-length-5 : tie.Need-same-length-5
 same-length-5 c = search needs
 
--- src/lib.rt:338:1
 same-length-6 : tie.Need-same-length-6
 same-length-6 c = search needs
 
--- src/lib.rt:338:1
 returns-4 : tie.Need-returns-4
 returns-4 c =
     let s = c .before .before .before .before .before .before .before .before .before .before .before .before .before .before .before .before .before .before .before .before .before .before .before .before .before .before .before .before .before .before .before .before in

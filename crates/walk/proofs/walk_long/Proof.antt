@@ -2,27 +2,19 @@ use Rattle.walk.proofs.Laws.{room-of}
 use borrow.Author.Needs.{needs}
 use Rattle.walk.proofs.walk_long.Statement.{statement}
 use Rattle.walk.proofs.walk_long.Tie as tie
-use Rattle.walk.proofs.walk_long.Reads as reads
-use Rattle.walk.proofs.walk_long.Lts as lts
-use Rattle.walk.proofs.walk_in.Reads as walk-in-reads
 
--- src/lib.rt:247:9
 slice-aggregate-walk-in : tie.Need-slice-aggregate-walk-in
 slice-aggregate-walk-in c = search needs
 
--- src/lib.rt:248:9
 slice-aggregate-walk-in-2 : tie.Need-slice-aggregate-walk-in-2
 slice-aggregate-walk-in-2 c = search needs
 
--- src/lib.rt:238:5
 walk-in-requires : tie.Need-walk-in-requires
 walk-in-requires c κs = (c .before .before .before .before .before .before .before .before .before .before .pre .0, room-of _ _ 65536 (c .before .before .before .before .before .before .before .before .before .before .pre .0) (search needs), room-of _ _ 65536 (c .before .before .before .before .before .before .before .before .before .before .pre .0) (search needs), c .before .before .before .before .before .before .before .before .before .before .pre .1)
 
--- src/lib.rt:223:1
 same-length : tie.Need-same-length
 same-length c = search needs
 
--- src/lib.rt:223:1
 returns : tie.Need-returns
 returns c = search needs
 

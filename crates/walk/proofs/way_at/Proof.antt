@@ -6,35 +6,24 @@ use mir.Val.{SFits}
 use denote.Ref.{now}
 use Rattle.decoder.specs.Listed.{decodes}
 use Rattle.flow.specs.Flow.{flowOf, flowBy}
-use Rattle.walk.specs.Search.{sourceOf}
+use Rattle.walk.specs.mirror.Search.{sourceOf}
 use Rattle.walk.proofs.Laws.{decoded-is, way-is}
 use borrow.Author.Needs.{needs}
 use Rattle.walk.proofs.way_at.Statement.{statement}
 use Rattle.walk.proofs.way_at.Tie as tie
-use Rattle.walk.proofs.way_at.Reads as reads
-use Rattle.walk.proofs.way_at.Lts as lts
-use Rattle.decoder.proofs.decode_at.Reads as decode-at-reads
-use Rattle.flow.proofs.flow_by.Reads as flow-by-reads
-use Rattle.steps.proofs.way_of.Reads as way-of-reads
-use Rattle.words.proofs.byte_at.Reads as byte-at-reads
 
--- src/lib.rt:102:9
 decode-at-requires : tie.Need-decode-at-requires
 decode-at-requires c κs = search needs
 
--- src/lib.rt:104:52
 cast-byte-at : tie.Need-cast-byte-at
 cast-byte-at c = search needs
 
--- src/lib.rt:104:30
 byte-at-requires : tie.Need-byte-at-requires
 byte-at-requires c κs = search needs
 
--- src/lib.rt:104:9
 flow-by-requires : tie.Need-flow-by-requires
 flow-by-requires c κs = search needs
 
--- src/lib.rt:105:5
 way-of-requires : tie.Need-way-of-requires
 way-of-requires c κs = search needs
 
@@ -49,7 +38,6 @@ is c =
 flow-is : (c : tie.After-flow-by) → let a = c .before .before .before .before .before .before .before .before .before .before .before .before .args in c .flow-by .result ≡ flowOf (now (a .opcodes)) (c .before .before .before .before .decode-at .result .instr .opcode)
 flow-is c = c .flow-by .ensures ∙ ap flowBy (c .before .byte-at .ensures ∙ c .before .before .before .before .before .before .before .before .before .before .before .before .pre .numbers (c .before .before .before .before .decode-at .result .instr .opcode) (omega (arith, c .before .before .struct-known .given)))
 
--- src/lib.rt:85:1
 returns : tie.Need-returns
 returns c = let a = c .before .before .before .before .before .before .before .before .before .before .before .before .before .args in way-is (sourceOf (now (a .code)) (now (a .opcodes)) (now (a .types)) (now (a .slots)) (now (a .payload)) (a .setup)) (a .o) (c .before .before .before .before .before .decode-at .result) (is (c .before .before .before .before .before)) (flow-is (c .before)) (c .way-of .ensures)
 

@@ -1,0 +1,32 @@
+use borrow.Author.Needs.{needs}
+use Rattle.function.proofs.check_files.Statement.{statement}
+use Rattle.function.proofs.check_files.Tie as tie
+
+check-table-requires : tie.Need-check-table-requires
+check-table-requires c κs = search needs
+
+check-store-requires : tie.Need-check-store-requires
+check-store-requires c κs = search needs
+
+check-code-object-requires : tie.Need-check-code-object-requires
+check-code-object-requires c κs = search needs
+
+or-else-requires : tie.Need-or-else-requires
+or-else-requires c κs = search needs
+
+or-else-requires-2 : tie.Need-or-else-requires-2
+or-else-requires-2 c κs = search needs
+
+returns : tie.Need-returns
+returns c = rw (c .or-else2 .ensures, c .before .before .before .before .check-table .ensures, c .before .or-else .ensures, c .before .before .before .check-store .ensures, c .before .before .check-code-object .ensures)
+
+pub check-files-spec : {M : Type 1} → statement M
+check-files-spec =
+    tie.close
+    (tie.spec
+    check-table-requires
+    check-store-requires
+    check-code-object-requires
+    or-else-requires
+    or-else-requires-2
+    returns)

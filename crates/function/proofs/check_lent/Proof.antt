@@ -1,0 +1,40 @@
+use borrow.Author.Needs.{needs}
+use Rattle.function.proofs.check_lent.Statement.{statement}
+use Rattle.function.proofs.check_lent.Tie as tie
+
+slice-aggregate-check-table : tie.Need-slice-aggregate-check-table
+slice-aggregate-check-table c = search needs
+
+slice-aggregate-check-table-2 : tie.Need-slice-aggregate-check-table-2
+slice-aggregate-check-table-2 c = search needs
+
+check-table-requires : tie.Need-check-table-requires
+check-table-requires c κs = search needs
+
+check-pool-object-requires : tie.Need-check-pool-object-requires
+check-pool-object-requires c κs = search needs
+
+check-code-requires : tie.Need-check-code-requires
+check-code-requires c κs = search needs
+
+or-else-requires : tie.Need-or-else-requires
+or-else-requires c κs = search needs
+
+or-else-requires-2 : tie.Need-or-else-requires-2
+or-else-requires-2 c κs = search needs
+
+returns : tie.Need-returns
+returns c = rw (c .or-else2 .ensures, c .before .before .before .before .check-table .ensures, c .before .or-else .ensures, c .before .before .before .check-pool-object .ensures, c .before .before .check-code .ensures)
+
+pub check-lent-spec : {M : Type 1} → statement M
+check-lent-spec =
+    tie.close
+    (tie.spec
+    slice-aggregate-check-table
+    slice-aggregate-check-table-2
+    check-table-requires
+    check-pool-object-requires
+    check-code-requires
+    or-else-requires
+    or-else-requires-2
+    returns)

@@ -1,0 +1,4 @@
+pub mod Files
+pub mod Pool
+pub mod Code
+pub mod mirror

@@ -1,0 +1,129 @@
+// A function, as its listing, its jumps and its walks see it: the lent files and their checks, its pool, and the checks that are met as
+// its code is decoded. What takes checked files checks nothing, and searches as the Rust does, which on checked files finds the same.
+use refusal::Check;
+use refusal::Refusal;
+use serializer::SlotAt;
+use store::Object;
+use store::SlotValue;
+use tables::Layout;
+use targets::Pool;
+use targets::PoolSlots;
+use targets::Table;
+ghost use mathlib.Core.Path.{_≡_};
+ghost use mathlib.Core.List.{[]};
+ghost use Rattle.function.specs.Files.{checkFiles, checkPoolObject, checkLent};
+ghost use Rattle.function.specs.Pool.{poolBy};
+ghost use Rattle.function.specs.Code.{tableCheck};
+ghost use Rattle.function.specs.mirror.Pool.{poolFound, lentFound};
+
+// The object whose pool lent code uses, if one is lent. Without one no store is lent either.
+pub enum PoolObject {
+    Nothing,
+    Object(usize),
+}
+
+// Rows 1 to 8, of an object that is to be a BytecodeArray.
+pub fn check_files(
+    opcodes: &[u8],
+    types: &[u8],
+    runtime: &[u8],
+    intrinsic: &[u8],
+    layout: &[u8],
+    objects: &[u8],
+    slots: &[u8],
+    payload: &[u8],
+    object: usize,
+) -> Check
+    ensures { λ r. ⌜ r ≡ checkFiles (record { opcodes = now (opcodes .entry); types = now (types .entry); runtime = now (runtime .entry); intrinsic = now (intrinsic .entry); layout = now (layout .entry); objects = now (objects .entry); slots = now (slots .entry); payload = now (payload .entry) }) object ⌝ }
+{
+    let table = tables::check_table(opcodes, types, runtime, intrinsic, layout);
+    let files = refusal::or_else(
+        store::check_store(objects, slots, payload),
+        store::check_code_object(objects, object),
+    );
+    refusal::or_else(table, files)
+}
+
+// Rows 1 to 8 and 10, of lent code.
+pub fn check_lent(
+    code: &[u8],
+    opcodes: &[u8],
+    types: &[u8],
+    layout: &[u8],
+    objects: &[u8],
+    slots: &[u8],
+    payload: &[u8],
+    object: PoolObject,
+) -> Check
+    ensures { λ r. ⌜ r ≡ checkLent (record { opcodes = now (opcodes .entry); types = now (types .entry); runtime = []; intrinsic = []; layout = now (layout .entry); objects = now (objects .entry); slots = now (slots .entry); payload = now (payload .entry) }) object (now (code .entry)) ⌝ }
+{
+    let table = tables::check_table(opcodes, types, b"", b"", layout);
+    let owned = check_pool_object(objects, slots, payload, object);
+    let rest = refusal::or_else(owned, bytecode::check_code(code));
+    refusal::or_else(table, rest)
+}
+
+// Rows 6 to 8, where an object is lent.
+fn check_pool_object(objects: &[u8], slots: &[u8], payload: &[u8], object: PoolObject) -> Check
+    ensures { λ r. ⌜ r ≡ checkPoolObject (now (objects .entry)) (now (slots .entry)) (now (payload .entry)) object ⌝ }
+{
+    match object {
+        PoolObject::Nothing => Check::Ok,
+        PoolObject::Object(n) => refusal::or_else(
+            store::check_store(objects, slots, payload),
+            store::check_object(objects, n),
+        ),
+    }
+}
+
+// The pool of an object.
+pub fn pool_of(objects: &[u8], slots: &[u8], shape: Layout, object: Object) -> Pool
+    ensures { λ r. ⌜ r ≡ poolFound (now (objects .entry)) (now (slots .entry)) shape object ⌝ }
+{
+    let slot = shape.pool_slot as u64;
+    pool_by(
+        objects,
+        serializer::find_slot(slots, object.first, object.count, slot),
+    )
+}
+
+// The pool that lent code uses.
+pub fn lent_pool(objects: &[u8], slots: &[u8], shape: Layout, object: PoolObject) -> Pool
+    ensures { λ r. ⌜ r ≡ lentFound (now (objects .entry)) (now (slots .entry)) shape object ⌝ }
+{
+    match object {
+        PoolObject::Nothing => Pool::Nothing,
+        PoolObject::Object(n) => pool_of(objects, slots, shape, store::object_of(objects, n)),
+    }
+}
+
+// The pool that a slot refers to.
+fn pool_by(objects: &[u8], found: SlotAt) -> Pool
+    ensures { λ r. ⌜ r ≡ poolBy (now (objects .entry)) found ⌝ }
+{
+    let SlotAt::At(value) = found else {
+        return Pool::Nothing;
+    };
+    let SlotValue::Object(n) = value else {
+        return Pool::Nothing;
+    };
+    let object = store::object_of(objects, n as usize);
+    Pool::At(PoolSlots {
+        first: object.first,
+        count: object.count,
+    })
+}
+
+// Number 16 at the instruction's start.
+pub fn table_check(table: Table, at: usize) -> Check
+    ensures { λ r. ⌜ r ≡ tableCheck table at ⌝ }
+{
+    match table {
+        Table::Nothing => Check::Ok,
+        Table::At(_) => Check::Ok,
+        Table::Refused => Check::Refused(Refusal {
+            number: 16,
+            place: at,
+        }),
+    }
+}
