@@ -21,7 +21,7 @@ pub fn decode(opcodes: &[u8], types: &[u8], layout: &[u8], code: &[u8], start: u
     ensures { λ r. ⌜ r ≡ decodeOne (now (opcodes .entry)) (now (types .entry)) (now (layout .entry)) (now (code .entry)) start ⌝ }
 {
     let table = tables::check_table(opcodes, types, b"", b"", layout);
-    match refusal::or_else(table, check_code(code)) {
+    match refusal::first_refusal(table, check_code(code)) {
         Check::Refused(refusal) => Decoded {
             outcome: Outcome::Refused(refusal),
             instr: decoder::blank_instr(),
@@ -34,10 +34,10 @@ pub fn decode(opcodes: &[u8], types: &[u8], layout: &[u8], code: &[u8], start: u
 pub fn reg_name(out: &mut [u8], at: usize, frame: Frame, params: i32, index: i32) -> usize
     ensures { λ r. ⌜ Put (now (out .entry)) at (regName frame params index) (now (out .exit)) r ⌝ }
 {
-    if words::same_i32(index, frame.context) {
+    if words::eq_i32(index, frame.context) {
         return text::put_bytes(out, at, b"<context>");
     }
-    if words::same_i32(index, frame.closure) {
+    if words::eq_i32(index, frame.closure) {
         return text::put_bytes(out, at, b"<closure>");
     }
     if words::is_negative(words::wide(index)) {
@@ -66,7 +66,7 @@ pub fn render_operand(
     ensures { λ r. ⌜ Put (now (out .entry)) at (operandText (record { types = now (types .entry); runtime = now (runtime .entry); intrinsic = now (intrinsic .entry) }) frame params op) (now (out .exit)) r ⌝ }
 {
     match op {
-        Operand::Nothing => text::plus(at, 0),
+        Operand::Nothing => text::saturating_add(at, 0),
         Operand::Reg(i) => reg_name(out, at, frame, params, i),
         Operand::RegList { first, count } => list_name(out, at, frame, params, first, count),
         Operand::Imm(v) => put_imm(out, at, v),
@@ -85,7 +85,7 @@ pub fn instr_name(out: &mut [u8], at: usize, opcodes: &[u8], opcode: u8, scale: 
 {
     let p = text::put_bytes(out, at, tables::op_name(opcodes, opcode));
     if scale == 1 {
-        return text::plus(p, 0);
+        return text::saturating_add(p, 0);
     }
     if scale == 2 {
         text::put_bytes(out, p, b".Wide")
@@ -97,7 +97,7 @@ pub fn instr_name(out: &mut [u8], at: usize, opcodes: &[u8], opcode: u8, scale: 
 pub fn check_code(code: &[u8]) -> Check
     ensures { λ r. ⌜ r ≡ checkCode (now (code .entry)) ⌝ }
 {
-    refusal::unless(code.len() <= 65536, 10)
+    refusal::refuse_unless(code.len() <= 65536, refusal::LONG_CODE)
 }
 
 fn parameter_index(base: ParamBase, first: i32, params: i32, index: i32) -> i32
@@ -112,7 +112,7 @@ fn parameter_index(base: ParamBase, first: i32, params: i32, index: i32) -> i32
 fn param_name(out: &mut [u8], at: usize, p: i32) -> usize
     ensures { λ r. ⌜ Put (now (out .entry)) at (paramName p) (now (out .exit)) r ⌝ }
 {
-    if words::same_i32(p, 0) {
+    if words::eq_i32(p, 0) {
         return text::put_bytes(out, at, b"<this>");
     }
     let n = words::wrapping_sub_i32(p, 1);

@@ -14,8 +14,8 @@ use Rattle.lines.specs.Line.{View, lineText}
 use Rattle.targets.specs.Targets.{found}
 use Rattle.function.specs.Files.{Files}
 use Rattle.function.specs.declared.PoolObject.the-variants as object
-use Rattle.jumps.specs.declared.TargetAt.{TargetAt}
-use Rattle.jumps.specs.declared.TargetAt.the-variants as target-at
+use Rattle.jumps.specs.declared.TargetAnswer.{TargetAnswer}
+use Rattle.jumps.specs.declared.TargetAnswer.the-variants as target-answer
 use Rattle.function.specs.Pool.{lentPool, lentElem}
 use Rattle.jumps.specs.Jumps.{targetCall}
 use Rattle.walk.specs.declared.Walked.{Walked}
@@ -36,7 +36,7 @@ pub data Asked : Type 0 where
 pub data Told : Type 0 where
   decoded : Decoded → Told
   line : Outcome → List ℕ → Told
-  target : TargetAt → Told
+  target : TargetAnswer → Told
   walked : Walked × List ℕ → Told
 
 -- "No runtime names, and no pool unless named"
@@ -89,7 +89,7 @@ rows =
     ∷ decoded (refusedAt 13 0)
     ∷ line Outcome.Done (ascii "           @    0 : 0a 05 00 fa 02     CallRuntime [5], r0-r1\n")
     ∷ decoded (refusedAt 15 4)
-    ∷ target (target-at.At 18446744073709551613)
+    ∷ target (target-answer.At 18446744073709551613)
     ∷ walked (walked-as.Leaves 1 0, 1 ∷ 0 ∷ 7 ∷ 7 ∷ [])
     ∷ walked (walked-as.Leaves 2 4, 1 ∷ 0 ∷ 0 ∷ 0 ∷ 1 ∷ 7 ∷ 7 ∷ [])
     ∷ walked (walked-as.Closed, 1 ∷ 0 ∷ 1 ∷ 7 ∷ 7 ∷ [])

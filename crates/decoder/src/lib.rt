@@ -93,7 +93,7 @@ fn op_at(code: &[u8], ops: usize, start: usize, scale: u8, at: usize) -> Head
     let opcode = words::byte_at(code, at);
     if ops <= opcode as usize {
         return Head::Refused(Refusal {
-            number: 13,
+            number: refusal::NO_OPCODE,
             place: start,
         });
     }
@@ -125,7 +125,7 @@ fn head_at(code: &[u8], ops: usize, start: usize, wide: usize, extra: usize) -> 
 {
     if code.len() < start {
         return Head::Refused(Refusal {
-            number: 20,
+            number: refusal::BEYOND_CODE,
             place: start,
         });
     }
@@ -134,10 +134,10 @@ fn head_at(code: &[u8], ops: usize, start: usize, wide: usize, extra: usize) -> 
     }
     let prefix = words::byte_at(code, start) as usize;
     if prefix == wide {
-        return behind_prefix(code, ops, start, 11, 2);
+        return behind_prefix(code, ops, start, refusal::ENDS_AFTER_WIDE, 2);
     }
     if prefix == extra {
-        return behind_prefix(code, ops, start, 12, 4);
+        return behind_prefix(code, ops, start, refusal::ENDS_AFTER_EXTRA_WIDE, 4);
     }
     op_at(code, ops, start, 1, start)
 }

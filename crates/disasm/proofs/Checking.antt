@@ -7,7 +7,7 @@ use native.Mathlib.Omega.{arith}
 use Rattle.refusal.specs.declared.Refusal.{Refusal}
 use Rattle.refusal.specs.declared.Check.{Check}
 use Rattle.refusal.specs.declared.Check.the-variants.{Ok, Refused}
-use Rattle.refusal.specs.Check.{orElse}
+use Rattle.refusal.specs.Check.{firstRefusal}
 use Rattle.text.specs.Put.{place}
 use Rattle.decoder.specs.declared.Outcome.{Outcome}
 use Rattle.decoder.specs.declared.Decoded.{Decoded}
@@ -44,7 +44,7 @@ module _ (ops : List ℕ) (pooled : Bool) (d : ℕ → Decoded) (len : ℕ) wher
         record { checked = g .0; room = λ ok. omega (arith, s .is, s .whole, w) }
 
     checking-done : (c′ : Check) {p′ : ℕ} → d i .outcome ≡ Outcome.Done → i < d i .instr .end → d i .instr .end ≤ len
-        → c′ ≡ orElse check (tableCheck (jumpTable pooled (flowOf ops (d i .instr .opcode)) (d i .instr)) (d i .instr .offset))
+        → c′ ≡ firstRefusal check (tableCheck (jumpTable pooled (flowOf ops (d i .instr .opcode)) (d i .instr)) (d i .instr .offset))
         → p′ ≡ place (p + place (lineRoom (flowOf ops (d i .instr .opcode)) (d i .instr) (jumpTable pooled (flowOf ops (d i .instr .opcode)) (d i .instr)))) → Checking p′ c′ (d i .instr .end)
     unfolding linesRoom going-done
     checking-done c′ e low high is more =
@@ -66,9 +66,9 @@ module _ (ops : List ℕ) (pooled : Bool) (d : ℕ → Decoded) (len : ℕ) wher
       checked-end e = checking-end (ap (λ (y : Decoded). y .outcome) (sym is) ∙ e)
 
       pub checked-done : (c′ : Check) {p′ : ℕ} → x .outcome ≡ Outcome.Done → i < x .instr .end → x .instr .end ≤ len
-          → c′ ≡ orElse check (tableCheck (jumpTable pooled (flowOf ops (x .instr .opcode)) (x .instr)) (x .instr .offset))
+          → c′ ≡ firstRefusal check (tableCheck (jumpTable pooled (flowOf ops (x .instr .opcode)) (x .instr)) (x .instr .offset))
           → p′ ≡ place (p + place (lineRoom (flowOf ops (x .instr .opcode)) (x .instr) (jumpTable pooled (flowOf ops (x .instr .opcode)) (x .instr)))) → Checking p′ c′ (x .instr .end)
       checked-done c′ {p′} =
           subst (λ (y : Decoded). y .outcome ≡ Outcome.Done → i < y .instr .end → y .instr .end ≤ len
-          → c′ ≡ orElse check (tableCheck (jumpTable pooled (flowOf ops (y .instr .opcode)) (y .instr)) (y .instr .offset))
+          → c′ ≡ firstRefusal check (tableCheck (jumpTable pooled (flowOf ops (y .instr .opcode)) (y .instr)) (y .instr .offset))
           → p′ ≡ place (p + place (lineRoom (flowOf ops (y .instr .opcode)) (y .instr) (jumpTable pooled (flowOf ops (y .instr .opcode)) (y .instr)))) → Checking p′ c′ (y .instr .end)) (sym is) (checking-done c′)

@@ -7,7 +7,7 @@ use lib.ListN.{length}
 use Rattle.refusal.specs.declared.Refusal.{Refusal}
 use Rattle.refusal.specs.declared.Check.{Check}
 use Rattle.refusal.specs.declared.Check.the-variants.{Ok, Refused}
-use Rattle.refusal.specs.Check.{orElse}
+use Rattle.refusal.specs.Check.{firstRefusal}
 use Rattle.text.specs.Put.{Put, place}
 use Rattle.decoder.specs.declared.Outcome.{Outcome}
 use Rattle.decoder.specs.declared.Decoded.{Decoded}
@@ -48,7 +48,7 @@ module _ (v : View) (d : ℕ → Decoded) (len : ℕ) where
         record { checked = g .0; written = λ ok. written-all (ap (linesText v) (g .1)) (s .lines); kept = written-kept (s .lines) }
 
     pub passing-done : (c′ : Check) {o″ : List ℕ} {p′ : ℕ} → d i .outcome ≡ Outcome.Done → i < d i .instr .end → d i .instr .end ≤ len
-        → c′ ≡ orElse check (tableCheck (jumpTable (v .pooled) (flowOf (v .opcodes) (d i .instr .opcode)) (d i .instr)) (d i .instr .offset))
+        → c′ ≡ firstRefusal check (tableCheck (jumpTable (v .pooled) (flowOf (v .opcodes) (d i .instr .opcode)) (d i .instr)) (d i .instr .offset))
         → Put o′ p (lineText v (d i .instr)) o″ p′ → Passing o p₀ o″ p′ c′ (d i .instr .end)
     unfolding linesText going-done
     passing-done c′ e low high is put =
@@ -61,11 +61,11 @@ module _ (v : View) (d : ℕ → Decoded) (len : ℕ) where
 -- ---- the same, of what a call gave: x is what was decoded at i
 module _ (v : View) (d : ℕ → Decoded) (len : ℕ) {o o′ : List ℕ} {p₀ p i : ℕ} {check : Check} (h : length o ≤ 2 ^ 63) (s : Passing v d len o p₀ o′ p check i) (x : Decoded) (is : x ≡ d i) where
   pub done-at : (c′ : Check) {o″ : List ℕ} {p′ : ℕ} → x .outcome ≡ Outcome.Done → i < x .instr .end → x .instr .end ≤ len
-      → c′ ≡ orElse check (tableCheck (jumpTable (v .pooled) (flowOf (v .opcodes) (x .instr .opcode)) (x .instr)) (x .instr .offset))
+      → c′ ≡ firstRefusal check (tableCheck (jumpTable (v .pooled) (flowOf (v .opcodes) (x .instr .opcode)) (x .instr)) (x .instr .offset))
       → Put o′ p (lineText v (x .instr)) o″ p′ → Passing v d len o p₀ o″ p′ c′ (x .instr .end)
   done-at c′ {o″} {p′} =
       subst (λ (y : Decoded). y .outcome ≡ Outcome.Done → i < y .instr .end → y .instr .end ≤ len
-      → c′ ≡ orElse check (tableCheck (jumpTable (v .pooled) (flowOf (v .opcodes) (y .instr .opcode)) (y .instr)) (y .instr .offset))
+      → c′ ≡ firstRefusal check (tableCheck (jumpTable (v .pooled) (flowOf (v .opcodes) (y .instr .opcode)) (y .instr)) (y .instr .offset))
       → Put o′ p (lineText v (y .instr)) o″ p′ → Passing v d len o p₀ o″ p′ c′ (y .instr .end)) (sym is) (passing-done v d len h s c′)
 
   pub refused-at : (r : Refusal) → x .outcome ≡ Outcome.Refused r → Passed v (allOf d len) o p₀ o′ (record { check = Refused r; place = p })

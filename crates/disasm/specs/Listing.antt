@@ -6,17 +6,15 @@ use mathlib.Core.Bool.{cond}
 use lib.Dec.{leb}
 use lib.ListN.{length, take, drop}
 use Rattle.laws.specs.Ascii.{ascii}
-use Rattle.refusal.specs.declared.Check.{Check}
-use Rattle.refusal.specs.declared.Check.the-variants.{Ok, Refused}
-use Rattle.refusal.specs.Check.{refusalAt}
+use Rattle.refusal.specs.Check.{refusalAt, guardedOn}
 use Rattle.text.specs.Texts.{decimal, signedDecimal}
 use Rattle.store.specs.declared.Object.{Object}
 use Rattle.store.specs.Records.{objectOf}
 use Rattle.serializer.specs.declared.Elem.{Elem}
 use Rattle.tables.specs.Layout.{layoutOf}
 use Rattle.header.specs.declared.Header.{Header}
-use Rattle.header.specs.declared.HeaderAt.{HeaderAt}
-use Rattle.header.specs.declared.HeaderAt.the-variants as header-at
+use Rattle.header.specs.declared.HeaderAnswer.{HeaderAnswer}
+use Rattle.header.specs.declared.HeaderAnswer.the-variants as header-answer
 use Rattle.header.specs.Header.{headerOf}
 use Rattle.decoder.specs.declared.Instr.{Instr}
 use Rattle.decoder.specs.Listed.{Listing, listed}
@@ -61,17 +59,13 @@ putText t o = cond (leb (length t) (length o)) (listed-as.Done (length t), t ++ 
 abbrev pub ListedAs : Listed × List ℕ → Listed → List ℕ → Type 0
 ListedAs a r o′ = (r ≡ a .0) × (o′ ≡ a .1)
 
-abbrev pub unless : Check → List ℕ → Listed × List ℕ → Listed × List ℕ
-unless Ok o answer = answer
-unless (Refused r) o answer = (listed-as.Refused r, o)
-
 -- the header and the lines, once 11 to 16 are past
 unfoldable pub listView : View → Header → Listing → List ℕ → Listed × List ℕ
-listView v h l o = unless (listingCheck (v .opcodes) (v .pooled) l) o (putText (headerText h ++ linesText v (l .instrs)) o)
+listView v h l o = guardedOn (listingCheck (v .opcodes) (v .pooled) l) listed-as.Refused o (putText (headerText h ++ linesText v (l .instrs)) o)
 
-abbrev pub listHeader : Files → HeaderAt → Pool → (ℕ → Elem) → List ℕ → Listed × List ℕ
-listHeader f (header-at.Refused r) p el o = (listed-as.Refused r, o)
-listHeader f (header-at.At h) p el o = let v = viewBy f h p el in listView v h (listed (v .code) (f .opcodes) (f .types) (v .frame .«reg_file_start»)) o
+abbrev pub listHeader : Files → HeaderAnswer → Pool → (ℕ → Elem) → List ℕ → Listed × List ℕ
+listHeader f (header-answer.Refused r) p el o = (listed-as.Refused r, o)
+listHeader f (header-answer.At h) p el o = let v = viewBy f h p el in listView v h (listed (v .code) (f .opcodes) (f .types) (v .frame .«reg_file_start»)) o
 
 -- the listing of an object whose files are good
 abbrev pub listObject : Files → Object → List ℕ → Listed × List ℕ
@@ -81,4 +75,4 @@ listObject f o out =
 
 -- the call: its answer, and the buffer behind it
 unfoldable pub listCall : Files → ℕ → List ℕ → Listed × List ℕ
-listCall f object out = unless (checkFiles f object) out (listObject f (objectOf (f .objects) object) out)
+listCall f object out = guardedOn (checkFiles f object) listed-as.Refused out (listObject f (objectOf (f .objects) object) out)

@@ -2,7 +2,7 @@
 
 use decoder::Outcome;
 use header::Header;
-use header::HeaderAt;
+use header::HeaderAnswer;
 use refusal::Check;
 use refusal::Refusal;
 use store::Object;
@@ -11,7 +11,7 @@ use tables::Layout;
 use targets::Pool;
 ghost use mathlib.Core.Path.{_≡_};
 ghost use Prim.Native.Nat.{suc};
-ghost use Rattle.refusal.specs.Check.{orElse};
+ghost use Rattle.refusal.specs.Check.{firstRefusal};
 ghost use Rattle.text.specs.Put.{Put};
 ghost use Rattle.decoder.specs.Listed.{listFrom};
 ghost use Rattle.decoder.specs.Decode.{decodeAt};
@@ -97,8 +97,8 @@ fn list_object(
 {
     let shape = tables::layout_of(layout);
     match header::header_of(slots, payload, object, shape) {
-        HeaderAt::Refused(refusal) => Listed::Refused(refusal),
-        HeaderAt::At(h) => {
+        HeaderAnswer::Refused(refusal) => Listed::Refused(refusal),
+        HeaderAnswer::At(h) => {
             let pool = function::pool_of(objects, slots, shape, object);
             list_header(
                 out,
@@ -290,7 +290,7 @@ fn list_measured(
                 Listed::Done(written.place)
             } else {
                 Listed::Refused(Refusal {
-                    number: 17,
+                    number: refusal::SHORT_OUTPUT,
                     place: 0,
                 })
             }
@@ -381,7 +381,7 @@ fn put_lines(
     ensures { λ r. ⌜ Passed (record { code = now (code .entry); opcodes = now (opcodes .entry); names = record { types = now (types .entry); runtime = now (runtime .entry); intrinsic = now (intrinsic .entry) }; frame = frame; params = params; pooled = found pool; elem = poolSearched (now (slots .entry)) (now (payload .entry)) ts pool }) (listFrom (λ i. decodeAt (now (code .entry)) (now (opcodes .entry)) (now (types .entry)) i (frame .«reg_file_start») wide extra) (suc (length (now (code .entry)))) 0) (now (out .entry)) at (now (out .exit)) r ⌝ }
 {
     let rfs = frame.reg_file_start;
-    let mut p = text::plus(at, 0);
+    let mut p = text::saturating_add(at, 0);
     let mut check = Check::Ok;
     let mut i: usize = 0;
     while i < code.len() {
@@ -399,8 +399,8 @@ fn put_lines(
             Outcome::Done => {
                 let flow = flow::flow_by(words::byte_at(flows, instr.opcode as usize));
                 let table = targets::jump_table(pool, flow, instr);
-                check = refusal::or_else(check, function::table_check(table, instr.offset));
-                let q = text::least(p, out.len());
+                check = refusal::first_refusal(check, function::table_check(table, instr.offset));
+                let q = text::min(p, out.len());
                 let w = lines::put_line(
                     &mut out[q..],
                     code,
@@ -417,7 +417,7 @@ fn put_lines(
                     flow,
                     instr,
                 );
-                p = text::plus(p, w);
+                p = text::saturating_add(p, w);
                 i = instr.end;
             }
         }
@@ -457,8 +457,8 @@ fn check_lines(
             Outcome::Done => {
                 let flow = flow::flow_by(words::byte_at(flows, instr.opcode as usize));
                 let table = targets::jump_table(pool, flow, instr);
-                check = refusal::or_else(check, function::table_check(table, instr.offset));
-                p = text::plus(p, lines::line_room(flow, instr, table));
+                check = refusal::first_refusal(check, function::table_check(table, instr.offset));
+                p = text::saturating_add(p, lines::line_room(flow, instr, table));
                 i = instr.end;
             }
         }

@@ -7,7 +7,7 @@ use native.Mathlib.Omega.{arith}
 use Rattle.refusal.specs.declared.Refusal.{Refusal}
 use Rattle.refusal.specs.declared.Check.{Check}
 use Rattle.refusal.specs.declared.Check.the-variants.{Ok, Refused}
-use Rattle.refusal.specs.Check.{orElse}
+use Rattle.refusal.specs.Check.{firstRefusal}
 use Rattle.refusal.proofs.Laws.{never, or-none, or-assoc}
 use Rattle.decoder.specs.declared.Outcome.{Outcome}
 use Rattle.decoder.specs.declared.Decoded.{Decoded}
@@ -31,7 +31,7 @@ module _ (ops : List ℕ) (pooled : Bool) (d : ℕ → Decoded) (len : ℕ) wher
     pub few : passed ≤ i
     pub inside : i ≤ len
     pub outcome : allOf d len .outcome ≡ restOf d len passed i .outcome
-    pub switches : switchCheck ops pooled (allOf d len .instrs) ≡ orElse check (switchCheck ops pooled (restOf d len passed i .instrs))
+    pub switches : switchCheck ops pooled (allOf d len .instrs) ≡ firstRefusal check (switchCheck ops pooled (restOf d len passed i .instrs))
 
   unfoldable pub going-start : Going Ok 0
   going-start = let z : suc len - 0 ≡ suc len = omega arith in record { passed = 0; few = omega arith; inside = omega arith; outcome = rw z; switches = rw z }
@@ -44,15 +44,15 @@ module _ (ops : List ℕ) (pooled : Bool) (d : ℕ → Decoded) (len : ℕ) wher
     pub going-refused : (r : Refusal) → d i .outcome ≡ Outcome.Refused r → (Refused r ≡ listingCheck ops pooled (allOf d len)) × (codeCheck (allOf d len .outcome) ≡ Ok → ⊥)
     going-refused r e =
         let f = s .outcome ∙ ap (λ (l : Listing). l .outcome) (rest-is (list-refused d (len - s .passed) i r e)) in
-        (sym (ap (λ (x : Outcome). orElse (codeCheck x) (switchCheck ops pooled (allOf d len .instrs))) f), λ ok. never r (sym (ap codeCheck f) ∙ ok))
+        (sym (ap (λ (x : Outcome). firstRefusal (codeCheck x) (switchCheck ops pooled (allOf d len .instrs))) f), λ ok. never r (sym (ap codeCheck f) ∙ ok))
 
     pub going-end : d i .outcome ≡ Outcome.End → (check ≡ listingCheck ops pooled (allOf d len)) × (restOf d len (s .passed) i .instrs ≡ [])
     unfolding switchCheck
     going-end e =
         let rest = rest-is (list-end d (len - s .passed) i e) in
         let f = s .outcome ∙ ap (λ (l : Listing). l .outcome) rest in
-        let g = s .switches ∙ ap (λ (l : Listing). orElse check (switchCheck ops pooled (l .instrs))) rest ∙ or-none check in
-        (sym (ap (λ (x : Outcome). orElse (codeCheck x) (switchCheck ops pooled (allOf d len .instrs))) f ∙ g), ap (λ (l : Listing). l .instrs) rest)
+        let g = s .switches ∙ ap (λ (l : Listing). firstRefusal check (switchCheck ops pooled (l .instrs))) rest ∙ or-none check in
+        (sym (ap (λ (x : Outcome). firstRefusal (codeCheck x) (switchCheck ops pooled (allOf d len .instrs))) f ∙ g), ap (λ (l : Listing). l .instrs) rest)
 
     -- the instruction at i, and what is left behind it
     pub going-instrs : d i .outcome ≡ Outcome.Done → restOf d len (s .passed) i .instrs ≡ d i .instr ∷ restOf d len (suc (s .passed)) (d i .instr .end) .instrs
@@ -61,7 +61,7 @@ module _ (ops : List ℕ) (pooled : Bool) (d : ℕ → Decoded) (len : ℕ) wher
         rw next (ap (λ (l : Listing). l .instrs) (rest-is (list-done d (len - s .passed) i e)))
 
     unfoldable pub going-done : (c′ : Check) → d i .outcome ≡ Outcome.Done → i < d i .instr .end → d i .instr .end ≤ len
-        → c′ ≡ orElse check (tableCheck (jumpTable pooled (flowOf ops (d i .instr .opcode)) (d i .instr)) (d i .instr .offset))
+        → c′ ≡ firstRefusal check (tableCheck (jumpTable pooled (flowOf ops (d i .instr .opcode)) (d i .instr)) (d i .instr .offset))
         → Going c′ (d i .instr .end)
     unfolding switchCheck
     going-done c′ e low high is =
@@ -74,5 +74,5 @@ module _ (ops : List ℕ) (pooled : Bool) (d : ℕ → Decoded) (len : ℕ) wher
           few = omega (arith, s .few);
           inside = high;
           outcome = rw next (s .outcome ∙ ap (λ (l : Listing). l .outcome) rest);
-          switches = rw (next, is) (s .switches ∙ ap (λ (l : Listing). orElse check (switchCheck ops pooled (l .instrs))) rest ∙ sym (or-assoc check t (switchCheck ops pooled (r .instrs))));
+          switches = rw (next, is) (s .switches ∙ ap (λ (l : Listing). firstRefusal check (switchCheck ops pooled (l .instrs))) rest ∙ sym (or-assoc check t (switchCheck ops pooled (r .instrs))));
         }

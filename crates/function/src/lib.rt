@@ -37,11 +37,11 @@ pub fn check_files(
     ensures { λ r. ⌜ r ≡ checkFiles (record { opcodes = now (opcodes .entry); types = now (types .entry); runtime = now (runtime .entry); intrinsic = now (intrinsic .entry); layout = now (layout .entry); objects = now (objects .entry); slots = now (slots .entry); payload = now (payload .entry) }) object ⌝ }
 {
     let table = tables::check_table(opcodes, types, runtime, intrinsic, layout);
-    let files = refusal::or_else(
+    let files = refusal::first_refusal(
         store::check_store(objects, slots, payload),
         store::check_code_object(objects, object),
     );
-    refusal::or_else(table, files)
+    refusal::first_refusal(table, files)
 }
 
 // Rows 1 to 8 and 10, of lent code.
@@ -59,8 +59,8 @@ pub fn check_lent(
 {
     let table = tables::check_table(opcodes, types, b"", b"", layout);
     let owned = check_pool_object(objects, slots, payload, object);
-    let rest = refusal::or_else(owned, bytecode::check_code(code));
-    refusal::or_else(table, rest)
+    let rest = refusal::first_refusal(owned, bytecode::check_code(code));
+    refusal::first_refusal(table, rest)
 }
 
 // Rows 6 to 8, where an object is lent.
@@ -69,7 +69,7 @@ fn check_pool_object(objects: &[u8], slots: &[u8], payload: &[u8], object: PoolO
 {
     match object {
         PoolObject::Nothing => Check::Ok,
-        PoolObject::Object(n) => refusal::or_else(
+        PoolObject::Object(n) => refusal::first_refusal(
             store::check_store(objects, slots, payload),
             store::check_object(objects, n),
         ),
@@ -122,7 +122,7 @@ pub fn table_check(table: Table, at: usize) -> Check
         Table::Nothing => Check::Ok,
         Table::At(_) => Check::Ok,
         Table::Refused => Check::Refused(Refusal {
-            number: 16,
+            number: refusal::BAD_SWITCH,
             place: at,
         }),
     }

@@ -20,8 +20,8 @@ use Rattle.header.specs.Header.{headerWith, headerBy}
 use Rattle.header.specs.Slots.{smiBy, fieldNum}
 use Rattle.header.specs.Calls.{headerCall, smiCall, numCall}
 use Rattle.header.specs.Shown.{shownHeader, shownSlot, shownField}
-use Rattle.header.specs.declared.HeaderAt.{HeaderAt}
-use Rattle.header.specs.declared.HeaderAt.the-variants as header-at
+use Rattle.header.specs.declared.HeaderAnswer.{HeaderAnswer}
+use Rattle.header.specs.declared.HeaderAnswer.the-variants as header-answer
 
 -- a number in four bytes, and one below 0
 abbrev four : ℕ → List ℕ
@@ -53,11 +53,11 @@ layout ts direct =
 abbrev length : ℕ → List ℕ
 length n = four 0 ++ four n
 
-abbrev header : ℕ → ℕ → List ℕ → ℕ → HeaderAt
+abbrev header : ℕ → ℕ → List ℕ → ℕ → HeaderAnswer
 header ts direct start size = headerCall (object 1) slot (payload start size) (layout ts direct) 0
 
 -- 01's sample
-pub sample : header 8 0 (length 5) 8 ≡ header-at.At (record {
+pub sample : header 8 0 (length 5) 8 ≡ header-answer.At (record {
   length = 5;
   «parameter_count» = pos 1;
   «register_count» = 1;

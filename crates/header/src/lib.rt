@@ -33,7 +33,7 @@ pub struct Header {
     pub code_len: usize,
 }
 
-pub enum HeaderAt {
+pub enum HeaderAnswer {
     At(Header),
     Refused(Refusal),
 }
@@ -65,7 +65,7 @@ pub fn header_at(
     payload: &[u8],
     layout: &[u8],
     object: usize,
-) -> HeaderAt
+) -> HeaderAnswer
     ensures { λ r. ⌜ r ≡ headerCall (now (objects .entry)) (now (slots .entry)) (now (payload .entry)) (now (layout .entry)) object ⌝ }
 {
     match check_header(objects, slots, payload, layout, object) {
@@ -73,7 +73,7 @@ pub fn header_at(
             let o = store::object_of(objects, object);
             header_of(slots, payload, o, tables::layout_of(layout))
         }
-        Check::Refused(refusal) => HeaderAt::Refused(refusal),
+        Check::Refused(refusal) => HeaderAnswer::Refused(refusal),
     }
 }
 
@@ -119,7 +119,7 @@ pub fn num_field(
 fn check_at(objects: &[u8], slots: &[u8], payload: &[u8], object: usize) -> Check
     ensures { λ r. ⌜ r ≡ checkAt (now (objects .entry)) (now (slots .entry)) (now (payload .entry)) object ⌝ }
 {
-    refusal::or_else(
+    refusal::first_refusal(
         store::check_store(objects, slots, payload),
         store::check_object(objects, object),
     )
@@ -128,7 +128,7 @@ fn check_at(objects: &[u8], slots: &[u8], payload: &[u8], object: usize) -> Chec
 fn check_code(objects: &[u8], slots: &[u8], payload: &[u8], object: usize) -> Check
     ensures { λ r. ⌜ r ≡ checkCode (now (objects .entry)) (now (slots .entry)) (now (payload .entry)) object ⌝ }
 {
-    refusal::or_else(
+    refusal::first_refusal(
         store::check_store(objects, slots, payload),
         store::check_code_object(objects, object),
     )
@@ -139,24 +139,24 @@ fn check_header(objects: &[u8], slots: &[u8], payload: &[u8], layout: &[u8], obj
     ensures { λ r. ⌜ r ≡ checkHeader (now (objects .entry)) (now (slots .entry)) (now (payload .entry)) (now (layout .entry)) object ⌝ }
 {
     let table = tables::check_layout_file(layout);
-    refusal::or_else(table, check_code(objects, slots, payload, object))
+    refusal::first_refusal(table, check_code(objects, slots, payload, object))
 }
 
 // The header.
 
 // The header of an object by its slots, or row 9.
-pub fn header_of(slots: &[u8], payload: &[u8], object: Object, layout: Layout) -> HeaderAt
+pub fn header_of(slots: &[u8], payload: &[u8], object: Object, layout: Layout) -> HeaderAnswer
     ensures { λ r. ⌜ r ≡ headerSearched (now (slots .entry)) (now (payload .entry)) object layout ⌝ }
 {
     let length = length_of(slots, payload, object, layout);
     if !length_ok(length) {
-        return HeaderAt::Refused(Refusal {
-            number: 9,
+        return HeaderAnswer::Refused(Refusal {
+            number: refusal::BAD_LENGTH,
             place: 0,
         });
     }
-    let n = words::magnitude(length) as u32;
-    HeaderAt::At(header_with(slots, payload, object, layout, n))
+    let n = words::unsigned_abs(length) as u32;
+    HeaderAnswer::At(header_with(slots, payload, object, layout, n))
 }
 
 // The length field; 0 where it is not found or is no small integer.
@@ -206,7 +206,7 @@ fn length_ok(length: i64) -> bool
     if words::is_negative(length) {
         return false;
     }
-    words::magnitude(length) <= 65536
+    words::unsigned_abs(length) <= 65536
 }
 
 // The header where the length is n.

@@ -18,7 +18,7 @@ ghost use Rattle.targets.specs.mirror.Search.{poolSearched};
 ghost use Rattle.jumps.specs.Jumps.{targetTold, targetOf, targetCall, tableTold, tableOf, tableCall, entryTold, entryIn, entryOf, entryCall};
 
 // Where a jump goes. End is the code's end; Nothing is no target.
-pub enum TargetAt {
+pub enum TargetAnswer {
     At(u64),
     Nothing,
     End,
@@ -26,7 +26,7 @@ pub enum TargetAt {
 }
 
 // The entries of a switch. End is the code's end; Nothing is no table.
-pub enum TableAt {
+pub enum TableAnswer {
     At(Entries),
     Nothing,
     End,
@@ -55,7 +55,7 @@ pub fn jump_target(
     slots: &[u8],
     payload: &[u8],
     object: PoolObject,
-) -> TargetAt
+) -> TargetAnswer
     ensures { λ r. ⌜ r ≡ targetCall (record { opcodes = now (opcodes .entry); types = now (types .entry); runtime = []; intrinsic = []; layout = now (layout .entry); objects = now (objects .entry); slots = now (slots .entry); payload = now (payload .entry) }) object (now (code .entry)) at ⌝ }
 {
     match function::check_lent(
@@ -68,7 +68,7 @@ pub fn jump_target(
         payload,
         object,
     ) {
-        Check::Refused(refusal) => TargetAt::Refused(refusal),
+        Check::Refused(refusal) => TargetAnswer::Refused(refusal),
         Check::Ok => {
             let shape = tables::layout_of(layout);
             let pool = function::lent_pool(objects, slots, shape, object);
@@ -89,7 +89,7 @@ pub fn jump_table(
     slots: &[u8],
     payload: &[u8],
     object: PoolObject,
-) -> TableAt
+) -> TableAnswer
     ensures { λ r. ⌜ r ≡ tableCall (record { opcodes = now (opcodes .entry); types = now (types .entry); runtime = []; intrinsic = []; layout = now (layout .entry); objects = now (objects .entry); slots = now (slots .entry); payload = now (payload .entry) }) object (now (code .entry)) at ⌝ }
 {
     match function::check_lent(
@@ -102,7 +102,7 @@ pub fn jump_table(
         payload,
         object,
     ) {
-        Check::Refused(refusal) => TableAt::Refused(refusal),
+        Check::Refused(refusal) => TableAnswer::Refused(refusal),
         Check::Ok => {
             let shape = tables::layout_of(layout);
             let pool = function::lent_pool(objects, slots, shape, object);
@@ -166,14 +166,14 @@ fn target_of(
     ts: u8,
     pool: Pool,
     d: Decoded,
-) -> TargetAt
+) -> TargetAnswer
     ensures { λ r. ⌜ r ≡ targetOf (now (opcodes .entry)) (poolSearched (now (slots .entry)) (now (payload .entry)) ts pool) d ⌝ }
 {
     let outcome = d.outcome;
     let instr = d.instr;
     match outcome {
-        Outcome::End => TargetAt::End,
-        Outcome::Refused(refusal) => TargetAt::Refused(refusal),
+        Outcome::End => TargetAnswer::End,
+        Outcome::Refused(refusal) => TargetAnswer::Refused(refusal),
         Outcome::Done => {
             let flow = flow_of(opcodes, instr.opcode);
             target_told(targets::jump_target(slots, payload, ts, pool, flow, instr))
@@ -182,14 +182,14 @@ fn target_of(
 }
 
 // The table of what was decoded at a place.
-fn table_of(opcodes: &[u8], pool: Pool, d: Decoded, at: usize) -> TableAt
+fn table_of(opcodes: &[u8], pool: Pool, d: Decoded, at: usize) -> TableAnswer
     ensures { λ r. ⌜ r ≡ tableOf (now (opcodes .entry)) (found pool) d at ⌝ }
 {
     let outcome = d.outcome;
     let instr = d.instr;
     match outcome {
-        Outcome::End => TableAt::End,
-        Outcome::Refused(refusal) => TableAt::Refused(refusal),
+        Outcome::End => TableAnswer::End,
+        Outcome::Refused(refusal) => TableAnswer::Refused(refusal),
         Outcome::Done => {
             let flow = flow_of(opcodes, instr.opcode);
             table_told(targets::jump_table(pool, flow, instr), at)
@@ -204,16 +204,16 @@ fn entry_of(
     ts: u8,
     pool: Pool,
     from: u64,
-    table: TableAt,
+    table: TableAnswer,
     k: usize,
 ) -> EntryAnswer
     ensures { λ r. ⌜ r ≡ entryOf (poolSearched (now (slots .entry)) (now (payload .entry)) ts pool) from table k ⌝ }
 {
     match table {
-        TableAt::At(e) => entry_in(slots, payload, ts, pool, from, e, k),
-        TableAt::Nothing => EntryAnswer::Nothing,
-        TableAt::End => EntryAnswer::End,
-        TableAt::Refused(refusal) => EntryAnswer::Refused(refusal),
+        TableAnswer::At(e) => entry_in(slots, payload, ts, pool, from, e, k),
+        TableAnswer::Nothing => EntryAnswer::Nothing,
+        TableAnswer::End => EntryAnswer::End,
+        TableAnswer::Refused(refusal) => EntryAnswer::Refused(refusal),
     }
 }
 
@@ -244,24 +244,24 @@ fn entry_told(entry: Entry) -> EntryAnswer
     }
 }
 
-fn target_told(target: Target) -> TargetAt
+fn target_told(target: Target) -> TargetAnswer
     ensures { λ r. ⌜ r ≡ targetTold target ⌝ }
 {
     match target {
-        Target::At(t) => TargetAt::At(t),
-        Target::Nothing => TargetAt::Nothing,
+        Target::At(t) => TargetAnswer::At(t),
+        Target::Nothing => TargetAnswer::Nothing,
     }
 }
 
 // Number 16 at the instruction's start.
-fn table_told(table: Table, at: usize) -> TableAt
+fn table_told(table: Table, at: usize) -> TableAnswer
     ensures { λ r. ⌜ r ≡ tableTold table at ⌝ }
 {
     match table {
-        Table::Nothing => TableAt::Nothing,
-        Table::At(e) => TableAt::At(e),
-        Table::Refused => TableAt::Refused(Refusal {
-            number: 16,
+        Table::Nothing => TableAnswer::Nothing,
+        Table::At(e) => TableAnswer::At(e),
+        Table::Refused => TableAnswer::Refused(Refusal {
+            number: refusal::BAD_SWITCH,
             place: at,
         }),
     }

@@ -54,12 +54,12 @@ pub fn line_room(flow: Flow, instr: Instr, table: Table) -> usize
     ensures { λ r. ⌜ r ≡ place (lineRoom flow instr table) ⌝ }
 {
     let kind = flow.kind;
-    let count = text::least(instr.count, 8);
+    let count = text::min(instr.count, 8);
     let size = size_of(instr);
     let p = 110 + target_room(kind) as usize + 72 * count + 46 * entries_of(table) as usize;
-    let p = text::plus(p, size);
-    let p = text::plus(p, size);
-    text::plus(p, size)
+    let p = text::saturating_add(p, size);
+    let p = text::saturating_add(p, size);
+    text::saturating_add(p, size)
 }
 
 // The room for a target.
@@ -121,8 +121,8 @@ fn put_operands(
 ) -> usize
     ensures { λ r. ⌜ Put (now (out .entry)) at (operandsBy (record { types = now (types .entry); runtime = now (runtime .entry); intrinsic = now (intrinsic .entry) }) frame params instr 0 (min (instr .count) 8)) (now (out .exit)) r ⌝ }
 {
-    let n = text::least(instr.count, 8);
-    let mut p = text::plus(at, 0);
+    let n = text::min(instr.count, 8);
+    let mut p = text::saturating_add(at, 0);
     let mut k: usize = 0;
     while k < n {
         let op = targets::operand_of(instr, k as u8);
@@ -153,7 +153,7 @@ fn put_target(out: &mut [u8], at: usize, target: Target) -> usize
             let p = text::put_decimal(out, p, t);
             text::put_byte(out, p, b')')
         }
-        Target::Nothing => text::plus(at, 0),
+        Target::Nothing => text::saturating_add(at, 0),
     }
 }
 
@@ -170,8 +170,8 @@ fn put_table(
     ensures { λ r. ⌜ Put (now (out .entry)) at (tableText (poolSearched (now (slots .entry)) (now (payload .entry)) ts pool) here table) (now (out .exit)) r ⌝ }
 {
     match table {
-        Table::Nothing => text::plus(at, 0),
-        Table::Refused => text::plus(at, 0),
+        Table::Nothing => text::saturating_add(at, 0),
+        Table::Refused => text::saturating_add(at, 0),
         Table::At(e) => {
             let p = text::put_bytes(out, at, b" {");
             let p = put_entries(out, p, slots, payload, ts, pool, here, e);
@@ -193,7 +193,7 @@ fn put_entries(
     ensures { λ r. ⌜ Put (now (out .entry)) at (entriesFrom (poolSearched (now (slots .entry)) (now (payload .entry)) ts pool) here e false 0 (e .count)) (now (out .exit)) r ⌝ }
 {
     let n = e.count;
-    let mut p = text::plus(at, 0);
+    let mut p = text::saturating_add(at, 0);
     let mut shown = false;
     let mut k: u16 = 0;
     while k < n {
@@ -209,7 +209,7 @@ fn put_entry(out: &mut [u8], at: usize, shown: bool, entry: Entry) -> usize
     ensures { λ r. ⌜ Put (now (out .entry)) at (entryText shown entry) (now (out .exit)) r ⌝ }
 {
     match entry {
-        Entry::Skipped => text::plus(at, 0),
+        Entry::Skipped => text::saturating_add(at, 0),
         Entry::Shown { case, target } => {
             let p = put_comma(out, at, shown);
             let p = text::put_byte(out, p, b' ');
@@ -226,7 +226,7 @@ fn put_comma(out: &mut [u8], at: usize, shown: bool) -> usize
     if shown {
         text::put_byte(out, at, b',')
     } else {
-        text::plus(at, 0)
+        text::saturating_add(at, 0)
     }
 }
 

@@ -12,7 +12,7 @@ use lib.Seq.{take-append-seam, drop-append-seam}
 use Rattle.refusal.specs.declared.Refusal.{Refusal}
 use Rattle.refusal.specs.declared.Check.{Check}
 use Rattle.refusal.specs.declared.Check.the-variants.{Ok, Refused}
-use Rattle.refusal.specs.Check.{refusalAt, orElse, unlessGood}
+use Rattle.refusal.specs.Check.{refusalAt, firstRefusal, refuseUnless, guardedOn}
 use Rattle.refusal.proofs.Laws.{or-assoc}
 use Rattle.text.specs.Put.{Put}
 use Rattle.text.proofs.Put.{kept, fits}
@@ -22,7 +22,7 @@ use Rattle.store.specs.Check.{checkStore, checkCodeObject}
 use Rattle.serializer.specs.declared.Elem.{Elem}
 use Rattle.tables.specs.Layout.{layoutOf}
 use Rattle.tables.specs.Check.{checkTable}
-use Rattle.header.specs.declared.HeaderAt.{HeaderAt}
+use Rattle.header.specs.declared.HeaderAnswer.{HeaderAnswer}
 use Rattle.header.specs.Header.{headerOf}
 use Rattle.targets.specs.declared.Pool.{Pool}
 use Rattle.targets.specs.Targets.{poolElem}
@@ -31,17 +31,17 @@ use Rattle.disasm.specs.declared.Listed.{Listed}
 use Rattle.function.specs.Files.{Files, checkFiles}
 use Rattle.function.specs.Pool.{poolOf}
 use Rattle.function.specs.Code.{headerCheck, headerAt, listingCheck}
-use Rattle.disasm.specs.Listing.{headerText, linesText, unless, putText, viewBy, listView, listHeader, listObject, listCall}
+use Rattle.disasm.specs.Listing.{headerText, linesText, putText, viewBy, listView, listHeader, listObject, listCall}
 use Rattle.walk.specs.declared.Walked.{Walked}
 use Rattle.walk.specs.Walk.{walkCheck, walkFound, walkSource, objectSource, walkCall}
 use Rattle.program.specs.Printed.{refusalText, withinLimit, limitCheck, limited, told, shown, Printed, walkText, walkLimited, walkAnswer, walkShown}
 use Rattle.walk.specs.declared.Walked.the-variants as walked
 use Rattle.walk.specs.Walk as walk
-use Rattle.header.specs.declared.HeaderAt.the-variants as header-at
+use Rattle.header.specs.declared.HeaderAnswer.the-variants as header-answer
 use Rattle.disasm.specs.declared.Listed.the-variants as listed-as
 
 -- a check made twice says what it says once
-once : (a b : Check) (o : List ℕ) (x : Listed × List ℕ) → unless (orElse a Ok) o (unless (orElse a b) o x) ≡ unless (orElse a b) o x
+once : (a b : Check) (o : List ℕ) (x : Listed × List ℕ) → guardedOn (firstRefusal a Ok) listed-as.Refused o (guardedOn (firstRefusal a b) listed-as.Refused o x) ≡ guardedOn (firstRefusal a b) listed-as.Refused o x
 once Ok b o x = refl
 once (Refused r) b o x = refl
 
@@ -49,7 +49,7 @@ pub within : (f : Files) (o : List ℕ) → withinLimit (length (f .objects)) (l
 unfolding limited listCall
 within f o h =
     rw h
-    (once (checkTable (f .opcodes) (f .types) (f .runtime) (f .intrinsic) (f .layout)) (orElse (checkStore (f .objects) (f .slots) (f .payload)) (checkCodeObject (f .objects) 0)) o
+    (once (checkTable (f .opcodes) (f .types) (f .runtime) (f .intrinsic) (f .layout)) (firstRefusal (checkStore (f .objects) (f .slots) (f .payload)) (checkCodeObject (f .objects) 0)) o
     (listObject f (objectOf (f .objects) 0) o))
 
 -- ---- what is shown does not depend on what the buffer held
@@ -59,14 +59,14 @@ data Call (g : List ℕ → Listed × List ℕ) : Type 0 where
   refuses : (r : Refusal) → ((o : List ℕ) → g o ≡ (listed-as.Refused r, o)) → Call g
   puts : (t : List ℕ) → ((o : List ℕ) → g o ≡ putText t o) → Call g
 
-checked : (c : Check) (g : List ℕ → Listed × List ℕ) → Call g → Call (λ o. unless c o (g o))
+checked : (c : Check) (g : List ℕ → Listed × List ℕ) → Call g → Call (λ o. guardedOn c listed-as.Refused o (g o))
 checked Ok g s = s
 checked (Refused r) g s = refuses r (λ o. refl)
 
-headed : (f : Files) (h : HeaderAt) (p : Pool) (el : ℕ → Elem) → Call (listHeader f h p el)
+headed : (f : Files) (h : HeaderAnswer) (p : Pool) (el : ℕ → Elem) → Call (listHeader f h p el)
 unfolding listView
-headed f (header-at.Refused r) p el = refuses r (λ o. refl)
-headed f (header-at.At h) p el =
+headed f (header-answer.Refused r) p el = refuses r (λ o. refl)
+headed f (header-answer.At h) p el =
     let v = viewBy f h p el in
     let l = listed (v .code) (f .opcodes) (f .types) (v .frame .«reg_file_start») in
     let t = headerText h ++ linesText v (l .instrs) in
@@ -149,7 +149,7 @@ module _ (f : Files) (o : List ℕ) (whole : length o ≡ 65536) {x : Listed} {o
 -- ---- the walk program
 
 -- a check made twice says what it says once
-walk-once : (a b : Check) (M : List ℕ) (x : Walked × List ℕ) → walk.unless (orElse a Ok) M (walk.unless (orElse a b) M x) ≡ walk.unless (orElse a b) M x
+walk-once : (a b : Check) (M : List ℕ) (x : Walked × List ℕ) → guardedOn (firstRefusal a Ok) walked.Refused M (guardedOn (firstRefusal a b) walked.Refused M x) ≡ guardedOn (firstRefusal a b) walked.Refused M x
 walk-once Ok b M x = refl
 walk-once (Refused r) b M x = refl
 
@@ -157,15 +157,15 @@ pub walk-within : (f : Files) (M : List ℕ) → withinLimit (length (f .objects
 unfolding walkLimited walkCall
 walk-within f M h =
     let t = checkTable (f .opcodes) (f .types) (f .runtime) (f .intrinsic) (f .layout) in
-    let b = orElse (checkStore (f .objects) (f .slots) (f .payload)) (checkCodeObject (f .objects) 0) in
+    let b = firstRefusal (checkStore (f .objects) (f .slots) (f .payload)) (checkCodeObject (f .objects) 0) in
     let x = walkSource (objectSource f 0) M in
-    rw (h, or-assoc t b (headerCheck (headerAt f 0))) (walk-once t (orElse b (headerCheck (headerAt f 0))) M x)
+    rw (h, or-assoc t b (headerCheck (headerAt f 0))) (walk-once t (firstRefusal b (headerCheck (headerAt f 0))) M x)
 
 -- the answer depends on how many marks there are, not on what they are
-unless-blind : (c c′ : Check) (M M′ : List ℕ) (x x′ : Walked × List ℕ) → c ≡ c′ → x .0 ≡ x′ .0 → walk.unless c M x .0 ≡ walk.unless c′ M′ x′ .0
+unless-blind : (c c′ : Check) (M M′ : List ℕ) (x x′ : Walked × List ℕ) → c ≡ c′ → x .0 ≡ x′ .0 → guardedOn c walked.Refused M x .0 ≡ guardedOn c′ walked.Refused M′ x′ .0
 unless-blind c c′ M M′ x x′ e h = rw e (go c′)
   where
-    go : (c : Check) → walk.unless c M x .0 ≡ walk.unless c M′ x′ .0
+    go : (c : Check) → guardedOn c walked.Refused M x .0 ≡ guardedOn c walked.Refused M′ x′ .0
     go Ok = h
     go (Refused r) = refl
 
@@ -175,7 +175,7 @@ walk-blind f M n e =
     let M′ : List ℕ = replicate n 0 in
     let s = objectSource f 0 in
     let same : length M ≡ length M′ = e ∙ sym (length-replicate {A = ℕ} n 0) in
-    let c = orElse (checkFiles f 0) (headerCheck (headerAt f 0)) in
+    let c = firstRefusal (checkFiles f 0) (headerCheck (headerAt f 0)) in
     unless-blind (limitCheck f) (limitCheck f) M M′ (walkCall f 0 M) (walkCall f 0 M′) refl
     (unless-blind c c M M′ (walkSource s M) (walkSource s M′) refl
     (unless-blind (walkCheck s (length M)) (walkCheck s (length M′)) M M′ (walkFound s M) (walkFound s M′) (ap (walkCheck s) same) refl))
@@ -188,15 +188,15 @@ module _ (f : Files) (n : ℕ) (beyond : withinLimit (length (f .objects)) (leng
       let M : List ℕ = replicate n 0 in
       let b = withinLimit (length (f .objects)) (length (f .slots)) (length (f .payload)) in
       sym
-      (ap (λ (c : Check). walk.unless (orElse c (unlessGood b 6)) M (walkCall f 0 M) .0) e
-      ∙ ap (λ (x : Bool). walk.unless (unlessGood x 6) M (walkCall f 0 M) .0) beyond)
+      (ap (λ (c : Check). guardedOn (firstRefusal c (refuseUnless b 6)) walked.Refused M (walkCall f 0 M) .0) e
+      ∙ ap (λ (x : Bool). guardedOn (refuseUnless x 6) walked.Refused M (walkCall f 0 M) .0) beyond)
 
   pub walk-refused : (r : Refusal) → checkTable (f .opcodes) (f .types) (f .runtime) (f .intrinsic) (f .layout) ≡ Refused r → walked.Refused r ≡ walkAnswer f n
   unfolding walkAnswer walkLimited
   walk-refused r e =
       let M : List ℕ = replicate n 0 in
       let b = withinLimit (length (f .objects)) (length (f .slots)) (length (f .payload)) in
-      sym (ap (λ (c : Check). walk.unless (orElse c (unlessGood b 6)) M (walkCall f 0 M) .0) e)
+      sym (ap (λ (c : Check). guardedOn (firstRefusal c (refuseUnless b 6)) walked.Refused M (walkCall f 0 M) .0) e)
 
 walk-line : (w : Walked) → length (walkText w) ≤ 64
 unfolding walkText

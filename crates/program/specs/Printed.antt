@@ -8,16 +8,15 @@ use lib.ListN.{length, take, drop, replicate}
 use Rattle.laws.specs.Ascii.{ascii}
 use Rattle.refusal.specs.declared.Refusal.{Refusal}
 use Rattle.refusal.specs.declared.Check.{Check}
-use Rattle.refusal.specs.Check.{orElse, unlessGood}
+use Rattle.refusal.specs.Check.{firstRefusal, refuseUnless, guardedOn}
 use Rattle.text.specs.Texts.{decimal}
 use Rattle.tables.specs.Check.{checkTable}
 use Rattle.disasm.specs.declared.Listed.{Listed}
 use Rattle.disasm.specs.declared.Listed.the-variants as listed-as
 use Rattle.function.specs.Files.{Files}
-use Rattle.disasm.specs.Listing.{unless, listCall}
+use Rattle.disasm.specs.Listing.{listCall}
 use Rattle.walk.specs.declared.Walked.{Walked}
 use Rattle.walk.specs.declared.Walked.the-variants as walked
-use Rattle.walk.specs.Walk as walk
 use Rattle.walk.specs.Walk.{walkCall}
 
 -- "Either prints a refusal as `refused 14 at 1`"
@@ -32,12 +31,12 @@ withinLimit objects slots payload = leb objects 65536 && leb slots 65536 && leb 
 -- A store file beyond the limit is number 6, which comes after 1 to 5.
 abbrev pub limitCheck : Files → Check
 limitCheck f =
-    orElse (checkTable (f .opcodes) (f .types) (f .runtime) (f .intrinsic) (f .layout))
-    (unlessGood (withinLimit (length (f .objects)) (length (f .slots)) (length (f .payload))) 6)
+    firstRefusal (checkTable (f .opcodes) (f .types) (f .runtime) (f .intrinsic) (f .layout))
+    (refuseUnless (withinLimit (length (f .objects)) (length (f .slots)) (length (f .payload))) 6)
 
 -- The listing of object 0 into the buffer o.
 unfoldable pub limited : Files → List ℕ → Listed × List ℕ
-limited f o = unless (limitCheck f) o (listCall f 0 o)
+limited f o = guardedOn (limitCheck f) listed-as.Refused o (listCall f 0 o)
 
 -- The text of an answer and of the buffer that it left: the listing, or the refusal's line.
 abbrev pub told : Listed → List ℕ → List ℕ
@@ -57,7 +56,7 @@ walkText (walked.Refused r) = refusalText r
 
 -- The walks of object 0 with the marks M.
 unfoldable pub walkLimited : Files → List ℕ → Walked × List ℕ
-walkLimited f M = walk.unless (limitCheck f) M (walkCall f 0 M)
+walkLimited f M = guardedOn (limitCheck f) walked.Refused M (walkCall f 0 M)
 
 -- The answer with n marks, which are zeros here; that what they were before makes no difference is the contract of `walk_text`.
 unfoldable pub walkAnswer : Files → ℕ → Walked

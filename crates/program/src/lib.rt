@@ -83,7 +83,7 @@ fn list_limited(
     }
     match tables::check_table(opcodes, types, runtime, intrinsic, layout) {
         Check::Ok => Listed::Refused(Refusal {
-            number: 6,
+            number: refusal::STORE_SIZE,
             place: 0,
         }),
         Check::Refused(r) => Listed::Refused(r),
@@ -196,7 +196,7 @@ fn walk_limited(
     }
     match tables::check_table(opcodes, types, runtime, intrinsic, layout) {
         Check::Ok => Walked::Refused(Refusal {
-            number: 6,
+            number: refusal::STORE_SIZE,
             place: 0,
         }),
         Check::Refused(r) => Walked::Refused(r),

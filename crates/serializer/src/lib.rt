@@ -241,7 +241,7 @@ pub fn bca_rt_off(
 fn check_at(objects: &[u8], slots: &[u8], payload: &[u8], object: usize) -> Check
     ensures { λ r. ⌜ r ≡ checkAt (now (objects .entry)) (now (slots .entry)) (now (payload .entry)) object ⌝ }
 {
-    refusal::or_else(
+    refusal::first_refusal(
         store::check_store(objects, slots, payload),
         store::check_object(objects, object),
     )

@@ -274,7 +274,7 @@ fn sized(start: u32, n: i64, base: Number) -> Table
             if words::is_negative(n) {
                 return Table::Refused;
             }
-            let count = words::magnitude(n);
+            let count = words::unsigned_abs(n);
             if 4096 < count {
                 return Table::Refused;
             }

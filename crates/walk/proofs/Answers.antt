@@ -8,7 +8,7 @@ use lib.ListN.{length, drop, drop-of-length-le}
 use Rattle.refusal.specs.declared.Refusal.{Refusal}
 use Rattle.refusal.specs.declared.Check.{Check}
 use Rattle.refusal.specs.declared.Check.the-variants.{Ok, Refused}
-use Rattle.refusal.specs.Check.{refusalAt}
+use Rattle.refusal.specs.Check.{refusalAt, guardedOn}
 use Rattle.decoder.specs.declared.Outcome.{Outcome}
 use Rattle.decoder.specs.declared.Decoded.{Decoded}
 use Rattle.decoder.specs.Listed.{listOn, listFrom, decodes}
@@ -24,7 +24,7 @@ use Rattle.steps.specs.Steps.{Source, listing, walkGraph}
 use Rattle.steps.specs.mirror.Ways.{searchGraph}
 use Rattle.steps.proofs.Same.{search-less, less-search, walk-good}
 use Rattle.walk.specs.declared.Walked.{Walked}
-use Rattle.walk.specs.Walk.{answer, walkCheck, walkFound, unless, walkSource, WalkedAs, Promise}
+use Rattle.walk.specs.Walk.{answer, walkCheck, walkFound, walkSource, WalkedAs, Promise}
 use Rattle.walk.specs.mirror.Search.{Answered}
 use Rattle.walk.specs.declared.Walked.the-variants as walked
 
@@ -102,13 +102,13 @@ module _ (s : Source) where
   unfolding walkSource
   promised M r e = subst (Promise s) (sym e) (go (walkCheck s (length M)) refl)
     where
-      go : (c : Check) → walkCheck s (length M) ≡ c → Promise s (unless c M (walkFound s M) .0)
+      go : (c : Check) → walkCheck s (length M) ≡ c → Promise s (guardedOn c walked.Refused M (walkFound s M) .0)
       go (Refused x) h = tt
       go Ok h =
           met (finding (walkGraph s)) (finding-meets (walk-good s (ended (or-left whole _ h))))
 
 -- ---- the calls
 -- what a refusal before the code is looked at, or the code's own answer, promises
-pub promise-unless : (s : Source) (c : Check) (M : List ℕ) (r : Walked) → r ≡ unless c M (walkSource s M) .0 → Promise s r
+pub promise-unless : (s : Source) (c : Check) (M : List ℕ) (r : Walked) → r ≡ guardedOn c walked.Refused M (walkSource s M) .0 → Promise s r
 promise-unless s Ok M r e = promised s M r e
 promise-unless s (Refused x) M r e = subst (Promise s) (sym e) tt

@@ -12,7 +12,7 @@ use Rattle.laws.proofs.Tests.{same?}
 use Rattle.refusal.specs.declared.Refusal.{Refusal}
 use Rattle.refusal.specs.declared.Check.{Check}
 use Rattle.refusal.specs.declared.Check.the-variants.{Ok, Refused}
-use Rattle.refusal.specs.Check.{orElse}
+use Rattle.refusal.specs.Check.{firstRefusal}
 use Rattle.decoder.specs.declared.Outcome.{Outcome}
 use Rattle.decoder.specs.declared.Decoded.{Decoded}
 use Rattle.flow.specs.Flow.{flowOf}
@@ -83,7 +83,7 @@ module _ (ops : List ℕ) (u : Setup) (d : ℕ → Decoded) (len : ℕ) where
         }
 
     pub marking-done : (c′ : Check) → d i .outcome ≡ Outcome.Done → i < d i .instr .end → d i .instr .end ≤ len → d i .instr .offset ≡ i
-        → c′ ≡ orElse check (tableCheck (jumpTable (found (u .pool)) (flowOf ops (d i .instr .opcode)) (d i .instr)) (d i .instr .offset))
+        → c′ ≡ firstRefusal check (tableCheck (jumpTable (found (u .pool)) (flowOf ops (d i .instr .opcode)) (d i .instr)) (d i .instr .offset))
         → Marking (set S i 1) c′ (d i .instr .end)
     unfolding going-done
     marking-done c′ e low high own is =
@@ -100,10 +100,10 @@ module _ (ops : List ℕ) (u : Setup) (d : ℕ → Decoded) (len : ℕ) where
 -- ---- the same, of what a call gave: x is what was decoded at i
 module _ (ops : List ℕ) (u : Setup) (d : ℕ → Decoded) (len : ℕ) {S : List ℕ} {check : Check} {i : ℕ} (m : Marking ops u d len S check i) (x : Decoded) (is : x ≡ d i) where
   pub done-at : (c′ : Check) → x .outcome ≡ Outcome.Done → i < x .instr .end → x .instr .end ≤ len → x .instr .offset ≡ i
-      → c′ ≡ orElse check (tableCheck (jumpTable (found (u .pool)) (flowOf ops (x .instr .opcode)) (x .instr)) (x .instr .offset)) → Marking ops u d len (set S i 1) c′ (x .instr .end)
+      → c′ ≡ firstRefusal check (tableCheck (jumpTable (found (u .pool)) (flowOf ops (x .instr .opcode)) (x .instr)) (x .instr .offset)) → Marking ops u d len (set S i 1) c′ (x .instr .end)
   done-at c′ =
       subst (λ (y : Decoded). y .outcome ≡ Outcome.Done → i < y .instr .end → y .instr .end ≤ len → y .instr .offset ≡ i
-      → c′ ≡ orElse check (tableCheck (jumpTable (found (u .pool)) (flowOf ops (y .instr .opcode)) (y .instr)) (y .instr .offset)) → Marking ops u d len (set S i 1) c′ (y .instr .end)) (sym is) (marking-done ops u d len m c′)
+      → c′ ≡ firstRefusal check (tableCheck (jumpTable (found (u .pool)) (flowOf ops (y .instr .opcode)) (y .instr)) (y .instr .offset)) → Marking ops u d len (set S i 1) c′ (y .instr .end)) (sym is) (marking-done ops u d len m c′)
 
   pub refused-at : (r : Refusal) → x .outcome ≡ Outcome.Refused r → Started ops u (allOf d len) len S (Refused r)
   refused-at r e = marking-refused ops u d len m r (ap (λ (y : Decoded). y .outcome) (sym is) ∙ e)

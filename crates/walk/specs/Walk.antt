@@ -6,8 +6,7 @@ use mathlib.Core.List.{List, _++_}
 use lib.Dec.{leb, ltb}
 use lib.ListN.{length, drop}
 use Rattle.refusal.specs.declared.Check.{Check}
-use Rattle.refusal.specs.declared.Check.the-variants.{Ok, Refused}
-use Rattle.refusal.specs.Check.{orElse, unlessGood}
+use Rattle.refusal.specs.Check.{firstRefusal, refuseUnless, guardedOn}
 use Rattle.store.specs.Records.{objectOf}
 use Rattle.tables.specs.Layout.{layoutOf}
 use Rattle.targets.specs.declared.Pool.{Pool}
@@ -29,23 +28,19 @@ answer (leaves n o) = walked.Leaves n o
 
 -- 19: "code is empty"; 18: "mark buffer shorter than the code"
 abbrev pub roomCheck : ℕ → ℕ → Check
-roomCheck n room = orElse (unlessGood (ltb 0 n) 19) (unlessGood (leb n room) 18)
+roomCheck n room = firstRefusal (refuseUnless (ltb 0 n) 19) (refuseUnless (leb n room) 18)
 
 -- 11 to 16, 19 and 18
 abbrev pub walkCheck : Source → ℕ → Check
-walkCheck s room = orElse (listingCheck (s .opcodes) (s .pooled) (listing s)) (roomCheck (length (s .code)) room)
+walkCheck s room = firstRefusal (listingCheck (s .opcodes) (s .pooled) (listing s)) (roomCheck (length (s .code)) room)
 
 -- the answer, and the marks behind it: "further marks are unchanged"
 abbrev pub walkFound : Source → List ℕ → Walked × List ℕ
 walkFound s marks = let g = walkGraph s in (answer (finding g), markList g (finding g) (length (s .code)) ++ drop (length (s .code)) marks)
 
-abbrev pub unless : Check → List ℕ → Walked × List ℕ → Walked × List ℕ
-unless Ok marks a = a
-unless (Refused r) marks a = (walked.Refused r, marks)
-
 -- the walks of a code whose files are good
 unfoldable pub walkSource : Source → List ℕ → Walked × List ℕ
-walkSource s marks = unless (walkCheck s (length marks)) marks (walkFound s marks)
+walkSource s marks = guardedOn (walkCheck s (length marks)) walked.Refused marks (walkFound s marks)
 
 -- an answer r and marks M are those of a call
 abbrev pub WalkedAs : Walked × List ℕ → Walked → List ℕ → Type 0
@@ -70,7 +65,7 @@ objectSource f k = sourceWith f (codeOf f (headerAt f k)) (poolOf f (objectOf (f
 
 -- the call: rows 1 to 9, then 11 to 16, 19 and 18
 unfoldable pub walkCall : Files → ℕ → List ℕ → Walked × List ℕ
-walkCall f k marks = unless (orElse (checkFiles f k) (headerCheck (headerAt f k))) marks (walkSource (objectSource f k) marks)
+walkCall f k marks = guardedOn (firstRefusal (checkFiles f k) (headerCheck (headerAt f k))) walked.Refused marks (walkSource (objectSource f k) marks)
 
 -- ---- the walks of lent code
 -- with the pool of the object that is lent for it, if one is
@@ -79,4 +74,4 @@ lentSource f o code = sourceWith f code (lentPool f o)
 
 -- the call: rows 1 to 8 and 10, then 11 to 16, 19 and 18
 unfoldable pub walkLent : Files → PoolObject → List ℕ → List ℕ → Walked × List ℕ
-walkLent f o code marks = unless (checkLent f o code) marks (walkSource (lentSource f o code) marks)
+walkLent f o code marks = guardedOn (checkLent f o code) walked.Refused marks (walkSource (lentSource f o code) marks)

@@ -2,7 +2,7 @@
 
 use decoder::Outcome;
 use function::PoolObject;
-use header::HeaderAt;
+use header::HeaderAnswer;
 use refusal::Check;
 use refusal::Refusal;
 use steps::Next;
@@ -139,8 +139,8 @@ fn walk_object(
 {
     let shape = tables::layout_of(layout);
     match header::header_of(slots, payload, object, shape) {
-        HeaderAt::Refused(refusal) => Walked::Refused(refusal),
-        HeaderAt::At(h) => {
+        HeaderAnswer::Refused(refusal) => Walked::Refused(refusal),
+        HeaderAnswer::At(h) => {
             let pool = function::pool_of(objects, slots, shape, object);
             let code = serializer::lent(payload, h.code_at, h.code_len);
             walk_source(marks, code, opcodes, types, slots, payload, shape, pool)
@@ -278,14 +278,14 @@ fn walk_in(
         Check::Ok => {
             if n == 0 {
                 return Walked::Refused(Refusal {
-                    number: 19,
+                    number: refusal::EMPTY_CODE,
                     place: 0,
                 });
             }
             let room = marks.len();
             if room < n {
                 return Walked::Refused(Refusal {
-                    number: 18,
+                    number: refusal::SHORT_MARKS,
                     place: 0,
                 });
             }
@@ -361,7 +361,7 @@ fn mark_starts(
             Outcome::Done => {
                 let flow = flow::flow_by(words::byte_at(flows, instr.opcode as usize));
                 let table = targets::jump_table(pool, flow, instr);
-                check = refusal::or_else(check, function::table_check(table, instr.offset));
+                check = refusal::first_refusal(check, function::table_check(table, instr.offset));
                 starts[i] = 1;
                 i = instr.end;
             }

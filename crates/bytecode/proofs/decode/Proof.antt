@@ -1,7 +1,7 @@
 use mathlib.Core.Path.{_≡_, sym, _∙_}
 use mathlib.Core.List.{[]}
 use denote.Ref.{now}
-use Rattle.refusal.specs.Check.{orElse}
+use Rattle.refusal.specs.Check.{firstRefusal}
 use Rattle.tables.specs.Check.{checkTable}
 use Rattle.bytecode.specs.Decode.{checkCode, decodeOne}
 use borrow.Author.Needs.{needs}
@@ -20,8 +20,8 @@ check-table-requires c κs = search needs
 check-code-requires : tie.Need-check-code-requires
 check-code-requires c κs = search needs
 
-or-else-requires : tie.Need-or-else-requires
-or-else-requires c κs = search needs
+first-refusal-requires : tie.Need-first-refusal-requires
+first-refusal-requires c κs = search needs
 
 enum-known-refusal : tie.Need-enum-known-refusal
 enum-known-refusal c = search needs
@@ -36,8 +36,8 @@ decode-with-requires : tie.Need-decode-with-requires
 decode-with-requires c κs = search needs
 
 -- what the checks answer
-checked : (c : tie.After-or-else) → let a = c .before .before .before .before .before .before .before .before .before .args in c .or-else .result ≡ orElse (checkTable (now (a .opcodes)) (now (a .types)) [] [] (now (a .layout))) (checkCode (now (a .code)))
-checked c = c .or-else .ensures ∙ rw (c .before .before .check-table .ensures, c .before .check-code .ensures)
+checked : (c : tie.After-first-refusal) → let a = c .before .before .before .before .before .before .before .before .before .args in c .first-refusal .result ≡ firstRefusal (checkTable (now (a .opcodes)) (now (a .types)) [] [] (now (a .layout))) (checkCode (now (a .code)))
+checked c = c .first-refusal .ensures ∙ rw (c .before .before .check-table .ensures, c .before .check-code .ensures)
 
 returns : tie.Need-returns
 unfolding decodeOne
@@ -55,7 +55,7 @@ decode-spec =
     slice-aggregate-check-table-2
     check-table-requires
     check-code-requires
-    or-else-requires
+    first-refusal-requires
     enum-known-refusal
     blank-instr-requires
     enum-told

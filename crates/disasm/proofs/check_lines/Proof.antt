@@ -7,7 +7,7 @@ use mir.Syntax.{w32}
 use mir.Val.{toZ, ofZ}
 use denote.Ref.{now}
 use lib.ListN.{length}
-use Rattle.refusal.specs.Check.{orElse}
+use Rattle.refusal.specs.Check.{firstRefusal}
 use Rattle.text.specs.Put.{place}
 use Rattle.decoder.specs.declared.Decoded.{Decoded}
 use Rattle.decoder.specs.Decode.{decodeAt}
@@ -64,14 +64,14 @@ jump-table-requires c κs = search needs
 table-check-requires : tie.Need-table-check-requires Inv-loop μ-loop
 table-check-requires c κs = search needs
 
-or-else-requires : tie.Need-or-else-requires Inv-loop μ-loop
-or-else-requires c κs = search needs
+first-refusal-requires : tie.Need-first-refusal-requires Inv-loop μ-loop
+first-refusal-requires c κs = search needs
 
 line-room-requires : tie.Need-line-room-requires Inv-loop μ-loop
 line-room-requires c κs = search needs
 
-plus-requires : tie.Need-plus-requires Inv-loop μ-loop
-plus-requires c κs = search needs
+saturating-add-requires : tie.Need-saturating-add-requires Inv-loop μ-loop
+saturating-add-requires c κs = search needs
 
 -- an instruction ends behind its start and within the code
 progress : (c : tie.After-struct-known Inv-loop μ-loop) → (c .before .before .before .before .before .before .loop .i < c .before .before .before .before .decode-at .result .instr .end) × (c .before .before .before .before .decode-at .result .instr .end ≤ length (now (c .before .before .before .before .before .before .before .before .before .before .before .args .code)))
@@ -97,9 +97,9 @@ loop-again c =
     let q = progress (c .before .before .before .before .before .before .before) in
     let f = flow-is (c .before .before .before .before .before) in
     let t = c .before .before .before .before .jump-table .ensures ∙ ap (λ (z : Flow). jumpTable (found (a .pool)) z (x .instr)) f in
-    let k = c .before .before .or-else .ensures ∙ ap (orElse (l .check)) (c .before .before .before .table-check .ensures ∙ ap (λ (z : Table). tableCheck z (x .instr .offset)) t) in
-    let m = c .plus .ensures ∙ ap (λ (n : ℕ). place (l .p + n)) (c .before .line-room .ensures ∙ ap (λ (z : Flow). place (lineRoom z (x .instr) (c .before .before .before .before .jump-table .result))) f ∙ ap (λ (z : Table). place (lineRoom (flowOf (now (a .opcodes)) (x .instr .opcode)) (x .instr) z)) t) in
-    checked-done _ _ _ _ (l .inv) x (c .before .before .before .before .before .before .before .before .before .before .before .decode-at .ensures) (c .before .before .or-else .result) (c .before .before .before .before .before .before .before .before .enum-told2 .given .1) (q .0) (q .1) k m
+    let k = c .before .before .first-refusal .ensures ∙ ap (firstRefusal (l .check)) (c .before .before .before .table-check .ensures ∙ ap (λ (z : Table). tableCheck z (x .instr .offset)) t) in
+    let m = c .saturating-add .ensures ∙ ap (λ (n : ℕ). place (l .p + n)) (c .before .line-room .ensures ∙ ap (λ (z : Flow). place (lineRoom z (x .instr) (c .before .before .before .before .jump-table .result))) f ∙ ap (λ (z : Table). place (lineRoom (flowOf (now (a .opcodes)) (x .instr .opcode)) (x .instr) z)) t) in
+    checked-done _ _ _ _ (l .inv) x (c .before .before .before .before .before .before .before .before .before .before .before .decode-at .ensures) (c .before .before .first-refusal .result) (c .before .before .before .before .before .before .before .before .enum-told2 .given .1) (q .0) (q .1) k m
 
 returns-3 : tie.Need-returns-3 Inv-loop μ-loop
 returns-3 c =
@@ -126,9 +126,9 @@ check-lines-spec =
     flow-by-requires
     jump-table-requires
     table-check-requires
-    or-else-requires
+    first-refusal-requires
     line-room-requires
-    plus-requires
+    saturating-add-requires
     loop-less
     loop-again
     returns-3)

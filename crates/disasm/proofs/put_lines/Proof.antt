@@ -1,4 +1,4 @@
-use Rattle.refusal.specs.Check.{orElse}
+use Rattle.refusal.specs.Check.{firstRefusal}
 use Rattle.targets.specs.Targets.{jumpTable, found}
 use Rattle.targets.specs.declared.Table.{Table}
 use Rattle.function.specs.Code.{tableCheck}
@@ -28,11 +28,11 @@ Inv-loop out₀ at code opcodes types runtime intrinsic slots payload flows ts p
 abbrev μ-loop : tie.MeasureT-loop
 μ-loop out₀ at code opcodes types runtime intrinsic slots payload flows ts pool frame params wide extra rfs p₀ check₀ i₀ out p check i = length code - i
 
-plus-requires : tie.Need-plus-requires Inv-loop μ-loop
-plus-requires c κs = search needs
+saturating-add-requires : tie.Need-saturating-add-requires Inv-loop μ-loop
+saturating-add-requires c κs = search needs
 
 loop-holds : tie.Need-loop-holds Inv-loop μ-loop
-loop-holds c = let a = c .before .before .before .before .before .before .before .before .before .before .before .args in passing-start _ _ _ (now (a .out)) (a .at) (c .plus .ensures)
+loop-holds c = let a = c .before .before .before .before .before .before .before .before .before .before .before .args in passing-start _ _ _ (now (a .out)) (a .at) (c .saturating-add .ensures)
 
 decode-at-requires : tie.Need-decode-at-requires Inv-loop μ-loop
 decode-at-requires c κs = search needs
@@ -80,11 +80,11 @@ jump-table-requires c κs = search needs
 table-check-requires : tie.Need-table-check-requires Inv-loop μ-loop
 table-check-requires c κs = search needs
 
-or-else-requires : tie.Need-or-else-requires Inv-loop μ-loop
-or-else-requires c κs = search needs
+first-refusal-requires : tie.Need-first-refusal-requires Inv-loop μ-loop
+first-refusal-requires c κs = search needs
 
-least-requires : tie.Need-least-requires Inv-loop μ-loop
-least-requires c κs = search needs
+min-requires : tie.Need-min-requires Inv-loop μ-loop
+min-requires c κs = search needs
 
 sub-put-line : tie.Need-sub-put-line Inv-loop μ-loop
 sub-put-line c = search needs
@@ -98,8 +98,8 @@ part-put-line-end c = search needs
 put-line-requires : tie.Need-put-line-requires Inv-loop μ-loop
 put-line-requires c κs = search needs
 
-plus-requires-2 : tie.Need-plus-requires-2 Inv-loop μ-loop
-plus-requires-2 c κs = search needs
+saturating-add-requires-2 : tie.Need-saturating-add-requires-2 Inv-loop μ-loop
+saturating-add-requires-2 c κs = search needs
 
 -- an instruction ends behind its start and within the code
 progress : (c : tie.After-struct-known Inv-loop μ-loop) → let a = c .before .before .before .before .before .before .before .before .before .before .before .before .before .before .before .before .before .before .args in
@@ -128,10 +128,10 @@ loop-again c =
     let q = progress (c .before .before .before .before .before .before .before .before .before .before .before) in
     let f = flow-is (c .before .before .before .before .before .before .before .before .before) in
     let t = c .before .before .before .before .before .before .before .before .jump-table .ensures ∙ ap (λ (z : Flow). jumpTable (found (a .pool)) z (x .instr)) f in
-    let k = c .before .before .before .before .before .before .or-else .ensures ∙ ap (orElse (l .check)) (c .before .before .before .before .before .before .before .table-check .ensures ∙ ap (λ (z : Table). tableCheck z (x .instr .offset)) t) in
+    let k = c .before .before .before .before .before .before .first-refusal .ensures ∙ ap (firstRefusal (l .check)) (c .before .before .before .before .before .before .before .table-check .ensures ∙ ap (λ (z : Table). tableCheck z (x .instr .offset)) t) in
     let w = rw f at (c .before .before .before .put-line .ensures) in
-    done-at _ _ _ (omega (arith, c .before .before .before .before .before .before .before .before .before .before .before .before .before .before .before .before .before .before .before .before .before .before .before .before .before .before .before .before .before .good)) (l .inv) x (decoded-is (c .before .before .before .before .before .before .before .before .before .before .before .before .before .before .before)) (c .before .before .before .before .before .before .or-else .result) (c .before .before .before .before .before .before .before .before .before .before .before .before .enum-told2 .given .1) (q .0) (q .1) k
-    (part (l .out) (c .before .before .before .before .before .least .ensures) w (c .plus2 .ensures))
+    done-at _ _ _ (omega (arith, c .before .before .before .before .before .before .before .before .before .before .before .before .before .before .before .before .before .before .before .before .before .before .before .before .before .before .before .before .before .good)) (l .inv) x (decoded-is (c .before .before .before .before .before .before .before .before .before .before .before .before .before .before .before)) (c .before .before .before .before .before .before .first-refusal .result) (c .before .before .before .before .before .before .before .before .before .before .before .before .enum-told2 .given .1) (q .0) (q .1) k
+    (part (l .out) (c .before .before .before .before .before .min .ensures) w (c .saturating-add2 .ensures))
 
 same-length-3 : tie.Need-same-length-3 Inv-loop μ-loop
 same-length-3 c = written-kept (c .before .loop .inv .lines)
@@ -149,7 +149,7 @@ put-lines-spec =
     (tie.spec
     Inv-loop
     μ-loop
-    plus-requires
+    saturating-add-requires
     loop-holds
     decode-at-requires
     enum-known-outcome
@@ -164,13 +164,13 @@ put-lines-spec =
     flow-by-requires
     jump-table-requires
     table-check-requires
-    or-else-requires
-    least-requires
+    first-refusal-requires
+    min-requires
     sub-put-line
     part-put-line-start
     part-put-line-end
     put-line-requires
-    plus-requires-2
+    saturating-add-requires-2
     loop-less
     loop-again
     same-length-3

@@ -7,7 +7,7 @@ use Rattle.laws.proofs.Tests.{fell, held}
 use Rattle.header.specs.Header.{headerBy}
 use Rattle.header.proofs.Laws.{length-small}
 use Rattle.header.proofs.header_of.Statement.{statement}
-use Rattle.header.specs.declared.HeaderAt.the-variants as header-at
+use Rattle.header.specs.declared.HeaderAnswer.the-variants as header-answer
 use Rattle.header.proofs.header_of.Tie as tie
 
 length-of-requires : tie.Need-length-of-requires
@@ -22,14 +22,14 @@ returns c =
     let b = toZ-ofZ {w = w64} {z = c .before .before .length-of .result} (sfits-of {w = w64} (c .before .before .length-of .ok)) in
     rw (← c .before .before .length-of .ensures, fell (simp b at (c .before .length-ok .ensures)) (c .if1 .taken))
 
-magnitude-requires : tie.Need-magnitude-requires
-magnitude-requires c κs = search needs
+unsigned-abs-requires : tie.Need-unsigned-abs-requires
+unsigned-abs-requires c κs = search needs
 
 cast-n : tie.Need-cast-n
 cast-n c =
     let z = c .before .before .before .length-of .result in
     let b = toZ-ofZ {w = w64} {z = z} (sfits-of {w = w64} (c .before .before .before .length-of .ok)) in
-    omega (arith, simp b at (c .magnitude .ensures), length-small z (held (simp b at (c .before .before .length-ok .ensures)) (c .before .if1 .left)))
+    omega (arith, simp b at (c .unsigned-abs .ensures), length-small z (held (simp b at (c .before .before .length-ok .ensures)) (c .before .if1 .left)))
 
 header-with-requires : tie.Need-header-with-requires
 header-with-requires c κs = search needs
@@ -38,8 +38,8 @@ returns-2 : tie.Need-returns-2
 unfolding headerBy
 returns-2 c =
     let b = toZ-ofZ {w = w64} {z = c .before .before .before .before .length-of .result} (sfits-of {w = w64} (c .before .before .before .before .length-of .ok)) in
-    rw (← c .before .before .before .before .length-of .ensures, held (simp b at (c .before .before .before .length-ok .ensures)) (c .before .before .if1 .left), ← (simp b at (c .before .magnitude .ensures)))
-    (ap header-at.At (c .header-with .ensures))
+    rw (← c .before .before .before .before .length-of .ensures, held (simp b at (c .before .before .before .length-ok .ensures)) (c .before .before .if1 .left), ← (simp b at (c .before .unsigned-abs .ensures)))
+    (ap header-answer.At (c .header-with .ensures))
 
 pub header-of-spec : {M : Type 1} → statement M
 header-of-spec =
@@ -48,7 +48,7 @@ header-of-spec =
     length-of-requires
     length-ok-requires
     returns
-    magnitude-requires
+    unsigned-abs-requires
     cast-n
     header-with-requires
     returns-2)

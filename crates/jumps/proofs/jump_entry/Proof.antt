@@ -9,7 +9,7 @@ use Rattle.decoder.specs.declared.Decoded.{Decoded}
 use Rattle.targets.specs.declared.Pool.{Pool}
 use Rattle.targets.specs.Targets.{found, here}
 use Rattle.targets.specs.mirror.Search.{poolSearched}
-use Rattle.jumps.specs.declared.TableAt.{TableAt}
+use Rattle.jumps.specs.declared.TableAnswer.{TableAnswer}
 use Rattle.function.specs.mirror.Pool.{lentFound}
 use Rattle.function.specs.Pool.{lentPool, lentElem}
 use Rattle.jumps.specs.Jumps.{tableOf, tableCall, entryOf, entryCall}
@@ -68,7 +68,7 @@ returns-2 c =
     ∙ ap (λ (x : Layout). entryOf (poolSearched (f .slots) (f .payload) (x .«tagged_size») (c .before .before .before .before .before .lent-pool .result)) (c .before .here .result) (c .before .before .before .table-of .result) (a .k)) (c .before .before .before .before .before .before .layout-of .ensures)
     ∙ ap (λ (x : ℕ → Elem). entryOf x (c .before .here .result) (c .before .before .before .table-of .result) (a .k)) (lent-elems f w (now (a .code)) ok p)
     ∙ ap (λ (x : ℕ). entryOf (lentElem f w) x (c .before .before .before .table-of .result) (a .k)) from
-    ∙ ap (λ (x : TableAt). entryOf (lentElem f w) (here (decodedAt f (now (a .code)) (a .at) .instr)) x (a .k)) t)
+    ∙ ap (λ (x : TableAnswer). entryOf (lentElem f w) (here (decodedAt f (now (a .code)) (a .at) .instr)) x (a .k)) t)
 
 pub jump-entry-spec : {M : Type 1} → statement M
 jump-entry-spec =

@@ -21,11 +21,11 @@ Inv-loop out₀ at slots payload ts pool here e n p₀ shown₀ k₀ out p shown
 abbrev μ-loop : tie.MeasureT-loop
 μ-loop out₀ at slots payload ts pool here e n p₀ shown₀ k₀ out p shown k = n - k
 
-plus-requires : tie.Need-plus-requires Inv-loop μ-loop
-plus-requires c κs = search needs
+saturating-add-requires : tie.Need-saturating-add-requires Inv-loop μ-loop
+saturating-add-requires c κs = search needs
 
 loop-holds : tie.Need-loop-holds Inv-loop μ-loop
-loop-holds c = (omega arith, refl, rw sub-zero (written-none (now (c .before .before .before .before .args .out)) (c .before .before .before .before .args .at) _ (c .plus .ensures)))
+loop-holds c = (omega arith, refl, rw sub-zero (written-none (now (c .before .before .before .before .args .out)) (c .before .before .before .before .args .at) _ (c .saturating-add .ensures)))
 
 entry-at-requires : tie.Need-entry-at-requires Inv-loop μ-loop
 entry-at-requires c κs = search needs
@@ -72,7 +72,7 @@ put-entries-spec =
     (tie.spec
     Inv-loop
     μ-loop
-    plus-requires
+    saturating-add-requires
     loop-holds
     entry-at-requires
     put-entry-requires

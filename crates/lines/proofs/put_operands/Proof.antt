@@ -26,14 +26,14 @@ Inv-loop out₀ at types runtime intrinsic frame params instr n p₀ k₀ out p 
 abbrev μ-loop : tie.MeasureT-loop
 μ-loop out₀ at types runtime intrinsic frame params instr n p₀ k₀ out p k = n - k
 
-least-requires : tie.Need-least-requires Inv-loop μ-loop
-least-requires c κs = search needs
+min-requires : tie.Need-min-requires Inv-loop μ-loop
+min-requires c κs = search needs
 
-plus-requires : tie.Need-plus-requires Inv-loop μ-loop
-plus-requires c κs = search needs
+saturating-add-requires : tie.Need-saturating-add-requires Inv-loop μ-loop
+saturating-add-requires c κs = search needs
 
 loop-holds : tie.Need-loop-holds Inv-loop μ-loop
-loop-holds c = (omega arith, c .before .least .ensures, rw sub-zero (written-none (now (c .before .before .before .before .before .before .args .out)) (c .before .before .before .before .before .before .args .at) _ (c .plus .ensures)))
+loop-holds c = (omega arith, c .before .min .ensures, rw sub-zero (written-none (now (c .before .before .before .before .before .before .args .out)) (c .before .before .before .before .before .before .args .at) _ (c .saturating-add .ensures)))
 
 cast-operand-of : tie.Need-cast-operand-of Inv-loop μ-loop
 cast-operand-of c = search needs
@@ -57,7 +57,7 @@ loop-again : tie.Need-loop-again Inv-loop μ-loop
 loop-again c =
     let a = c .before .before .before .before .before .before .before .before .before .before .before .before .before .before .before .before .before .args in
     let l = c .before .before .before .before .before .before .before .before .before .before .loop in
-    let n = c .before .before .before .before .before .before .before .before .before .before .before .before .least .result in
+    let n = c .before .before .before .before .before .before .before .before .before .before .before .before .min .result in
     let names : NameFiles = record { types = now (a .types); runtime = now (a .runtime); intrinsic = now (a .intrinsic) } in
     let r = rw (c .before .before .before .before .before .before .before .before .operand-of .ensures) at (c .before .before .render-operand .ensures) in
     let u = before (l .k) ++ operandText names (a .frame) (toZ w32 (ofZ w32 (a .params))) (operandOf (a .instr) (l .k)) in (
@@ -74,7 +74,7 @@ returns : tie.Need-returns Inv-loop μ-loop
 returns c =
     let a = c .before .before .before .before .before .before .before .before .args in
     let l = c .before .loop in
-    let n = c .before .before .before .least .result in
+    let n = c .before .before .before .min .result in
     let names : NameFiles = record { types = now (a .types); runtime = now (a .runtime); intrinsic = now (a .intrinsic) } in
     let w = written-all (operands-end names (a .frame) (toZ w32 (ofZ w32 (a .params))) (a .instr) n (l .k) (c .loop-test .left)) (l .inv .2) in
     rw (← l .inv .1) (simp (toZ-ofZ (c .before .before .before .before .before .before .before .before .fits .params)) at w)
@@ -85,8 +85,8 @@ put-operands-spec =
     (tie.spec
     Inv-loop
     μ-loop
-    least-requires
-    plus-requires
+    min-requires
+    saturating-add-requires
     loop-holds
     cast-operand-of
     operand-of-requires

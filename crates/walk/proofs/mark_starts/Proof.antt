@@ -7,7 +7,7 @@ use mir.Syntax.{w32}
 use mir.Val.{SFits}
 use denote.Ref.{now}
 use lib.ListN.{length}
-use Rattle.refusal.specs.Check.{orElse}
+use Rattle.refusal.specs.Check.{firstRefusal}
 use Rattle.tables.specs.Records.{prefixOp}
 use Rattle.decoder.specs.declared.Decoded.{Decoded}
 use Rattle.decoder.specs.Listed.{decodes}
@@ -78,8 +78,8 @@ jump-table-requires c κs = search needs
 table-check-requires : tie.Need-table-check-requires Inv-loop μ-loop
 table-check-requires c κs = search needs
 
-or-else-requires : tie.Need-or-else-requires Inv-loop μ-loop
-or-else-requires c κs = search needs
+first-refusal-requires : tie.Need-first-refusal-requires Inv-loop μ-loop
+first-refusal-requires c κs = search needs
 
 -- an instruction starts where it was decoded, and ends behind its start and within the code
 abbrev Own : ℕ → ℕ → Decoded → Type 0
@@ -111,8 +111,8 @@ loop-again c =
     let x = c .before .before .before .before .before .before .before .before .before .decode-at .result in
     let q = progress (c .before .before .before .before .before) in
     let t = c .before .before .jump-table .ensures ∙ ap (λ (z : Flow). jumpTable (found (a .setup .pool)) z (x .instr)) (flow-is (c .before .before .before)) in
-    let k = c .or-else .ensures ∙ ap (orElse (l .check)) (c .before .table-check .ensures ∙ ap (λ (z : Table). tableCheck z (x .instr .offset)) t) in
-    done-at _ _ _ _ (l .inv) x (is (c .before .before .before .before .before .before .before .before .before)) (c .or-else .result) (c .before .before .before .before .before .before .enum-told2 .given .1) (q .0) (q .1) (q .2) k
+    let k = c .first-refusal .ensures ∙ ap (firstRefusal (l .check)) (c .before .table-check .ensures ∙ ap (λ (z : Table). tableCheck z (x .instr .offset)) t) in
+    done-at _ _ _ _ (l .inv) x (is (c .before .before .before .before .before .before .before .before .before)) (c .first-refusal .result) (c .before .before .before .before .before .before .enum-told2 .given .1) (q .0) (q .1) (q .2) k
 
 same-length-3 : tie.Need-same-length-3 Inv-loop μ-loop
 same-length-3 c = as-long (length (now (c .before .before .before .before .before .before .before .args .code))) (c .before .loop .starts) (now (c .before .before .before .before .before .before .before .args .starts)) (c .before .loop .inv .kept) (c .before .before .before .before .before .before .before .pre .1)
@@ -144,7 +144,7 @@ mark-starts-spec =
     flow-by-requires
     jump-table-requires
     table-check-requires
-    or-else-requires
+    first-refusal-requires
     slice-write-starts
     loop-less
     loop-again

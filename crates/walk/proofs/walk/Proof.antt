@@ -2,7 +2,7 @@ use mathlib.Core.Path.{refl, sym, ap, _∙_}
 use mathlib.Core.List.{List}
 use Prim.Native.Nat.{ℕ}
 use denote.Ref.{now}
-use Rattle.refusal.specs.Check.{orElse}
+use Rattle.refusal.specs.Check.{firstRefusal}
 use Rattle.store.specs.declared.Object.{Object}
 use Rattle.function.specs.Files.{Files, checkFiles}
 use Rattle.function.specs.Code.{headerCheck, headerAt}
@@ -46,7 +46,7 @@ returns-2 c =
     let e = ap (λ (x : Object). walkSearched f x (now (a .marks))) (c .before .before .before .object-of .ensures) ∙ walked-searched f (now (a .marks)) (a .object) ok in
     let q = c .before .before .walk-object .ensures in
     let r = q .0 ∙ ap (λ (x : Walked × List ℕ). x .0) e in
-    ((r, q .1 ∙ ap (λ (x : Walked × List ℕ). x .1) e), promise-unless (objectSource f (a .object)) (orElse (checkFiles f (a .object)) (headerCheck (headerAt f (a .object)))) (now (a .marks)) (c .before .before .walk-object .result) r)
+    ((r, q .1 ∙ ap (λ (x : Walked × List ℕ). x .1) e), promise-unless (objectSource f (a .object)) (firstRefusal (checkFiles f (a .object)) (headerCheck (headerAt f (a .object)))) (now (a .marks)) (c .before .before .walk-object .result) r)
 
 pub walk-spec : {M : Type 1} → statement M
 walk-spec =

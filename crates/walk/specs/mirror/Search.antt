@@ -8,11 +8,12 @@ use lib.Dec.{eqb}
 use lib.ListN.{length, getD}
 use Rattle.refusal.specs.declared.Check.{Check}
 use Rattle.refusal.specs.declared.Check.the-variants.{Ok}
+use Rattle.refusal.specs.Check.{guardedOn}
 use Rattle.store.specs.declared.Object.{Object}
 use Rattle.tables.specs.Records.{prefixOp}
 use Rattle.tables.specs.declared.Layout.{Layout}
 use Rattle.tables.specs.Layout.{layoutOf}
-use Rattle.header.specs.declared.HeaderAt.{HeaderAt}
+use Rattle.header.specs.declared.HeaderAnswer.{HeaderAnswer}
 use Rattle.header.specs.mirror.Header.{headerSearched}
 use Rattle.targets.specs.declared.Pool.{Pool}
 use Rattle.decoder.specs.Listed.{Listing}
@@ -29,7 +30,7 @@ use Rattle.graph.specs.mirror.Right.{Answer}
 use Rattle.graph.proofs.Steps.{Lawful}
 use Rattle.steps.specs.Steps.{Source, offset}
 use Rattle.steps.specs.mirror.Ways.{searchGraph}
-use Rattle.walk.specs.Walk.{unless, walkSource}
+use Rattle.walk.specs.Walk.{walkSource}
 use Rattle.walk.specs.declared.Setup.{Setup}
 use Rattle.walk.specs.declared.Found.{Found}
 use Rattle.walk.specs.declared.Found.the-variants as found-as
@@ -81,11 +82,11 @@ abbrev pub sourceBy : List ℕ → List ℕ → List ℕ → List ℕ → List �
 sourceBy code ops types slots payload l p =
     record { code = code; opcodes = ops; types = types; rfs = l .frame .«reg_file_start»; pooled = found p; elem = poolSearched slots payload (l .«tagged_size») p }
 
-abbrev pub headerFound : Files → Object → HeaderAt
+abbrev pub headerFound : Files → Object → HeaderAnswer
 headerFound f o = headerSearched (f .slots) (f .payload) o (layoutOf (f .layout))
 
 -- the walks of an object whose files are good
 unfoldable pub walkSearched : Files → Object → List ℕ → Walked × List ℕ
 walkSearched f o marks =
-    unless (headerCheck (headerFound f o)) marks
+    guardedOn (headerCheck (headerFound f o)) walked.Refused marks
     (walkSource (sourceBy (codeOf f (headerFound f o)) (f .opcodes) (f .types) (f .slots) (f .payload) (layoutOf (f .layout)) (poolFound (f .objects) (f .slots) (layoutOf (f .layout)) o)) marks)
