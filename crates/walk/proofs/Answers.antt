@@ -14,9 +14,8 @@ use Rattle.decoder.specs.declared.Decoded.{Decoded}
 use Rattle.decoder.specs.Listed.{listOn, listFrom, decodes}
 use Rattle.function.specs.Code.{codeCheck, listingCheck}
 use Rattle.refusal.proofs.Laws.{never, or-left}
-use Rattle.graph.specs.Graph.{Finding, Claim, finding, markList}
+use Rattle.graph.specs.Graph.{Finding, Claim, Answer, finding, markList}
 use Rattle.graph.specs.Graph.Finding.{closed, leaves}
-use Rattle.graph.specs.mirror.Right.{Answer}
 use Rattle.graph.proofs.Findings.{finding-meets}
 use Rattle.graph.proofs.Answers.{found}
 use Rattle.graph.proofs.Same.{answer-same}

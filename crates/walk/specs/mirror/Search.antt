@@ -24,9 +24,8 @@ use Rattle.function.specs.Files.{Files}
 use Rattle.function.specs.Code.{codeOf, headerCheck, codeCheck, listingCheck}
 use Rattle.function.specs.mirror.Pool.{poolFound}
 use Rattle.graph.specs.Lists.{elem}
-use Rattle.graph.specs.Graph.{Graph}
+use Rattle.graph.specs.Graph.{Graph, Answer}
 use Rattle.graph.specs.Graph.Finding.{closed, leaves}
-use Rattle.graph.specs.mirror.Right.{Answer}
 use Rattle.graph.proofs.Steps.{Lawful}
 use Rattle.steps.specs.Steps.{Source, offset}
 use Rattle.steps.specs.mirror.Ways.{searchGraph}
