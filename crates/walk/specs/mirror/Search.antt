@@ -69,6 +69,10 @@ abbrev pub foundAs : Found → Option ℕ
 foundAs (found-as.At o) = some o
 foundAs found-as.Nothing = none
 
+-- an answer r and marks M are those of a call
+abbrev pub WalkedBy : Walked × List ℕ → Walked → List ℕ → Type 0
+WalkedBy a r M = (r ≡ a .0) × (M ≡ a .1)
+
 -- the answer is right, and so are the marks; a search refuses nothing
 abbrev pub Answered : Graph → ℕ → List ℕ → Walked → Type 0
 Answered g n M walked.Closed = Answer g n M closed
