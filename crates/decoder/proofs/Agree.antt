@@ -1,5 +1,5 @@
 -- The step-by-step definition of an instruction is V8's and 01's: `decoded`. Assumes nothing.
-use Prim.Native.Nat.{ℕ, zero, suc, _+_, _/_, _%_, _^_, _<_, _≤_, min}
+use Prim.Native.Nat.{ℕ, zero, suc, _+_, _%_, _^_, _<_, _≤_, min}
 use mathlib.Core.Path.{_≡_, refl, sym, ap, _∙_}
 use mathlib.Core.Bool.{Bool, true, false, cond, _&&_}
 use mathlib.Core.List.{List, [], _∷_, _++_, map, append-assoc, append-nil}
@@ -15,7 +15,8 @@ use Rattle.laws.proofs.Tests.{and-left}
 use Rattle.laws.proofs.Scan.{first-shift}
 use Rattle.refusal.specs.declared.Refusal.{Refusal}
 use Rattle.refusal.specs.Check.{refusalAt}
-use Rattle.tables.specs.Records.{opByte, operandCount, width}
+use Rattle.tables.specs.Records.{width}
+use Rattle.flow.specs.Opcodes.{Opcodes}
 use Rattle.operand.specs.Operand.{isList, interpret}
 use Rattle.operand.specs.mirror.Step.{isCounted, valueAt, operandAt}
 use Rattle.operand.specs.declared.Operand.{Operand}
@@ -27,7 +28,7 @@ use Rattle.decoder.specs.declared.Head.{Head}
 use Rattle.decoder.specs.declared.Decoded.{Decoded}
 use Rattle.decoder.specs.mirror.Steps.{startOps, afterStep, stepOps, runOps, operandsAt, ofOps, ofHead, stepsAt}
 use Rattle.decoder.specs.Head.{blank, headAt}
-use Rattle.decoder.specs.Decode.{codesFrom, operandTypes, Part, own, count, partsFrom, partWidth, offsetOf, operandAtPart, operandsFrom, isShort, shortNumber, recordOf, recordsOf, instrOf, refusedAt, readParts, decodeHead, decodeAt}
+use Rattle.decoder.specs.Decode.{codesFrom, operandTypes, Part, own, count, partsFrom, partWidth, offsetOf, operandAtPart, operandsFrom, isShort, shortNumber, recordOf, recordsOf, instrOf, refusedAt, readParts, decodeHead, decodeBy}
 
 -- ---- lists of operands and their records
 more-records : (n : ℕ) (os : List Operand) (o : Operand) → length os < n → set (recordsOf n os) (length os) (recordOf o) ≡ recordsOf n (os ++ (o ∷ []))
@@ -73,10 +74,10 @@ module _ (code types : List ℕ) (scale : ℕ) (rfs : ℤ) where
   runList [] s = s
   runList (t ∷ ts) s = runList ts (stepOps code types scale rfs t s)
 
-  run-list : (opcodes : List ℕ) (opcode n k : ℕ) (s : Operands) → runOps code opcodes types opcode scale rfs n k s ≡ runList (codesFrom opcodes opcode k n) s
+  run-list : (opcodes : Opcodes) (opcode n k : ℕ) (s : Operands) → runOps code opcodes types opcode scale rfs n k s ≡ runList (codesFrom opcodes opcode k n) s
   unfolding runOps runList
   run-list opcodes opcode zero k s = refl
-  run-list opcodes opcode (suc n) k s = run-list opcodes opcode n (k + 1) (stepOps code types scale rfs (opByte opcodes opcode (42 + k)) s)
+  run-list opcodes opcode (suc n) k s = run-list opcodes opcode n (k + 1) (stepOps code types scale rfs (opcodes .code opcode k) s)
 
   -- operands that are read as far as place at
   abbrev state : ℕ → ℕ → List Operand → Operands
@@ -97,7 +98,7 @@ module _ (code types : List ℕ) (scale : ℕ) (rfs : ℤ) where
     of-add os o (good e more) = rw (append-assoc os (o ∷ []) more)
 
     -- the first short operand is the answer
-    pub run-short : (opcodes : List ℕ) (n k : ℕ) (r : Refusal) (t : ℕ) (s : Operands)
+    pub run-short : (opcodes : Opcodes) (n k : ℕ) (r : Refusal) (t : ℕ) (s : Operands)
         → ofOps start opcode scale (runOps code opcodes types opcode scale rfs n k (afterStep (Short r) t s)) ≡ record { outcome = Outcome.Refused r; instr = blank }
     run-short opcodes n k r t s = ap (ofOps start opcode scale) (run-list opcodes opcode n k (afterStep (Short r) t s) ∙ run-stopped (codesFrom opcodes opcode k n) r t s)
 
@@ -269,24 +270,25 @@ module _ (code types : List ℕ) (scale : ℕ) (rfs : ℤ) where
             ∙ ap (λ (l : List Operand). readWith l (at + tw + cw) (partsFrom true ts)) (append-nil os′)
             ∙ ap (λ (x : Operand). readWith (os ++ (x ∷ [])) (at + tw + cw) (partsFrom true ts)) (list-head t at ws′ f))
 
-codes-length : (ops : List ℕ) (op k n : ℕ) → length (codesFrom ops op k n) ≡ n
+codes-length : (ops : Opcodes) (op k n : ℕ) → length (codesFrom ops op k n) ≡ n
 codes-length ops op k zero = refl
 codes-length ops op k (suc n) = ap suc (codes-length ops op (k + 1) n)
 
-opened : (code ops types : List ℕ) (start : ℕ) (rfs : ℤ) (opcode scale at : ℕ)
+opened : (code : List ℕ) (ops : Opcodes) (types : List ℕ) (start : ℕ) (rfs : ℤ) (opcode scale at : ℕ)
     → ofOps start opcode scale (operandsAt code ops types opcode scale rfs at) ≡ readParts code types scale opcode rfs start at (partsFrom false (operandTypes ops opcode))
 unfolding readParts readWith isList
 opened code ops types start rfs opcode scale at =
-    let n = min (operandCount ops opcode) 8 in
+    let n = min (ops .operands opcode) 8 in
     let room : 0 + length (operandTypes ops opcode) ≤ 8 = omega (arith, codes-length ops opcode 0 n) in
     ap (ofOps start opcode scale) (run-list code types scale rfs ops opcode n 0 (startOps at))
     ∙ steps-got code types scale rfs start opcode (operandTypes ops opcode) at 0 [] room
     ∙ parts-got code types scale rfs start opcode (operandTypes ops opcode) false at []
 
 -- the code's steps are V8's and 01's decoding
-pub decoded : (code ops types : List ℕ) (start : ℕ) (rfs : ℤ) (wide extra : ℕ) → stepsAt code ops types start rfs wide extra ≡ decodeAt code ops types start rfs wide extra
-unfolding decodeAt
-decoded code ops types start rfs wide extra = go (headAt code (length ops / 64) start wide extra)
+pub decoded : (code : List ℕ) (ops : Opcodes) (types : List ℕ) (start : ℕ) (rfs : ℤ) (wide extra : ℕ)
+    → stepsAt code ops types start rfs wide extra ≡ decodeBy code ops types start rfs wide extra
+unfolding decodeBy
+decoded code ops types start rfs wide extra = go (headAt code (ops .many) start wide extra)
   where
     go : (h : Head) → ofHead h code ops types start rfs ≡ decodeHead h code ops types start rfs
     go Head.End = refl
