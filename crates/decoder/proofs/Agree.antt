@@ -37,17 +37,17 @@ more-records (suc n) [] o h = refl
 more-records (suc n) (x ∷ os) o h = ap (λ (l : List OperandRecord). recordOf x ∷ l) (more-records n os o (le-of-suc-le-suc h))
 
 -- ---- what reading one type after the other gives
-data Got : Type 0 where
+pub data Got : Type 0 where
   bad : Refusal → Got
   good : ℕ → List Operand → Got
 
-abbrev add : Operand → Got → Got
+abbrev pub add : Operand → Got → Got
 add o (bad r) = bad r
 add o (good e os) = good e (o ∷ os)
 
 module _ (code types : List ℕ) (scale : ℕ) (rfs : ℤ) where
   -- the number of w bytes at a place
-  abbrev value : ℕ → ℕ → ℕ
+  abbrev pub value : ℕ → ℕ → ℕ
   value at w = leAt code at w
 
   -- a width is at most 8
@@ -55,7 +55,7 @@ module _ (code types : List ℕ) (scale : ℕ) (rfs : ℤ) where
   unfolding valueAt width
   value-is at t = let e : min (width types t scale) 8 ≡ width types t scale = omega arith in rw e
 
-  got : Bool → ℕ → List ℕ → Got
+  unfoldable pub got : Bool → ℕ → List ℕ → Got
   got after at [] = good at []
   got after at (t ∷ ts) =
       let w = width types t scale in
@@ -89,7 +89,7 @@ module _ (code types : List ℕ) (scale : ℕ) (rfs : ℤ) where
   run-stopped (u ∷ ts) r t s = run-stopped ts r t s
 
   module _ (start opcode : ℕ) where
-    abbrev ofGot : List Operand → Got → Decoded
+    abbrev pub ofGot : List Operand → Got → Decoded
     ofGot os (bad r) = record { outcome = Outcome.Refused r; instr = blank }
     ofGot os (good e more) = record { outcome = Outcome.Done; instr = instrOf start opcode scale e (os ++ more) }
 
@@ -149,16 +149,16 @@ module _ (code types : List ℕ) (scale : ℕ) (rfs : ℤ) where
             rw (value-is at t, value-is (at + w) 8) (on (interpret t (value at w) w (value (at + w) cw % 2 ^ 32) rfs) (at + w + cw) true f rest)
 
     -- ---- and that is what V8's offsets give: parts from place at on, behind operands os, of which part k is the first that is short
-    abbrev upTo : List Operand → ℕ → List Part → ℕ → Decoded
+    abbrev pub upTo : List Operand → ℕ → List Part → ℕ → Decoded
     upTo os at ps k =
         let ws = map (partWidth types scale) ps in
         cond (ltb k (length ps)) (refusedAt (shortNumber (getD ps k count)) (at + offsetOf ws k))
         (record { outcome = Outcome.Done; instr = instrOf start opcode scale (at + offsetOf ws (length ps)) (os ++ operandsFrom code ws at rfs 0 ps) })
 
-    abbrev firstShort : ℕ → List Part → ℕ
+    abbrev pub firstShort : ℕ → List Part → ℕ
     firstShort at ps = firstFrom (isShort code (map (partWidth types scale) ps) at) 0 (length ps)
 
-    readWith : List Operand → ℕ → List Part → Decoded
+    unfoldable pub readWith : List Operand → ℕ → List Part → Decoded
     readWith os at ps = upTo os at ps (firstShort at ps)
 
     module _ (at w : ℕ) (ws : List ℕ) where
@@ -234,7 +234,7 @@ module _ (code types : List ℕ) (scale : ℕ) (rfs : ℤ) where
           let y : at + (width types t scale + 0) ≡ at + width types t scale = omega arith in
           rw (f, y, z)
 
-    parts-got : (ts : List ℕ) (after : Bool) (at : ℕ) (os : List Operand) → ofGot os (got after at ts) ≡ readWith os at (partsFrom after ts)
+    pub parts-got : (ts : List ℕ) (after : Bool) (at : ℕ) (os : List Operand) → ofGot os (got after at ts) ≡ readWith os at (partsFrom after ts)
     unfolding got partsFrom readWith firstFrom
     parts-got [] after at os = let z : at + 0 ≡ at = omega arith in rw z
     parts-got (t ∷ ts) after at os =

@@ -39,7 +39,7 @@ pub struct Decoded {
 }
 
 // The opcode at a place, behind any prefix.
-enum Head {
+pub enum Head {
     End,
     Refused(Refusal),
     Op { opcode: u8, scale: u8, at: usize },
