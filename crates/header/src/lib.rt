@@ -18,6 +18,7 @@ ghost use Rattle.header.specs.Header.{lengthOff, orZero, lengthBy, lengt
 ghost use Rattle.header.specs.mirror.Header.{rawFor, headerSearched};
 ghost use Rattle.header.specs.Slots.{slotBy, untested, smiRaw, smiBy, plainNum, smiNum, numBy, fieldNum};
 ghost use Rattle.header.specs.Calls.{checkCode, checkHeader, headerCall, smiCall, numCall};
+ghost use Rattle.header.specs.Numbers.{headerNumbers, smiSlotNumbers, numFieldNumbers};
 
 // Answers.
 
@@ -66,7 +67,8 @@ pub fn header_at(
     layout: &[u8],
     object: usize,
 ) -> HeaderAnswer
-    ensures { λ r. ⌜ r ≡ headerCall (now (objects .entry)) (now (slots .entry)) (now (payload .entry)) (now (layout .entry)) object ⌝ }
+    ensures { λ r. ⌜ headerNumbers r
+        ≡ headerNumbers (headerCall (now (objects .entry)) (now (slots .entry)) (now (payload .entry)) (now (layout .entry)) object) ⌝ }
 {
     match check_header(objects, slots, payload, layout, object) {
         Check::Ok => {
@@ -85,7 +87,8 @@ pub fn smi_slot(
     object: usize,
     slot: u64,
 ) -> SmiAnswer
-    ensures { λ r. ⌜ r ≡ smiCall (now (objects .entry)) (now (slots .entry)) (now (payload .entry)) ts object slot ⌝ }
+    ensures { λ r. ⌜ smiSlotNumbers r
+        ≡ smiSlotNumbers (smiCall (now (objects .entry)) (now (slots .entry)) (now (payload .entry)) ts object slot) ⌝ }
 {
     match check_at(objects, slots, payload, object) {
         Check::Ok => {
@@ -105,7 +108,8 @@ pub fn num_field(
     slot: u64,
     flags_smi: bool,
 ) -> NumAnswer
-    ensures { λ r. ⌜ r ≡ numCall (now (objects .entry)) (now (slots .entry)) (now (payload .entry)) ts object slot «flags_smi» ⌝ }
+    ensures { λ r. ⌜ numFieldNumbers r
+        ≡ numFieldNumbers (numCall (now (objects .entry)) (now (slots .entry)) (now (payload .entry)) ts object slot «flags_smi») ⌝ }
 {
     match check_at(objects, slots, payload, object) {
         Check::Ok => {

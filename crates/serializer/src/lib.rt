@@ -5,7 +5,6 @@ use refusal::Check;
 use refusal::Refusal;
 use store::SlotValue;
 ghost use mathlib.Core.Path.{_≡_};
-ghost use mathlib.Core.Bool.{_||_};
 ghost use Prim.Native.Nat.{_+_, _*_, _/_, _<_, min, max};
 ghost use lib.ListN.{length, take, drop};
 ghost use Rattle.serializer.specs.Smi.{smiHigh, smiTagged, smiBytes, smiAt};
@@ -16,6 +15,7 @@ ghost use Rattle.serializer.specs.Element.{elemBytes, elemRef, elemRaw, 
 ghost use Rattle.serializer.specs.Length.{roomFor, agrees, plainField, smiField, plainOr, chosen};
 ghost use Rattle.serializer.specs.Calls.{checkAt, slotAnswer, slotCall, rawAnswer, rawCall, rawPart, lenCall, elemCall, offCall};
 ghost use Rattle.serializer.specs.Offset.{isRaw, rawTail, behind, rtOff};
+ghost use Rattle.serializer.specs.Numbers.{smiNumbers, slotNumbers, rawNumbers, lenNumbers, elemNumbers, offNumbers};
 
 // Answers.
 
@@ -97,7 +97,8 @@ pub fn slot_at(
     object: usize,
     index: u64,
 ) -> SlotAnswer
-    ensures { λ r. ⌜ r ≡ slotCall (now (objects .entry)) (now (slots .entry)) (now (payload .entry)) object index ⌝ }
+    ensures { λ r. ⌜ slotNumbers r
+        ≡ slotNumbers (slotCall (now (objects .entry)) (now (slots .entry)) (now (payload .entry)) object index) ⌝ }
 {
     match check_at(objects, slots, payload, object) {
         Check::Ok => {
@@ -120,7 +121,11 @@ pub fn raw_at<'a>(
     off: u64,
     len: u64,
 ) -> RawPart<'a>
-    ensures { λ r. ⌜ (r .answer ≡ rawCall (now (objects .entry)) (now (slots .entry)) (now (payload .entry)) ts object off len) × (now (r .part) ≡ rawPart (now (payload .entry)) (rawCall (now (objects .entry)) (now (slots .entry)) (now (payload .entry)) ts object off len) len) ⌝ }
+    ensures { λ r. ⌜ (rawNumbers (r .answer)
+        ≡ rawNumbers (rawCall (now (objects .entry)) (now (slots .entry)) (now (payload .entry)) ts object off len))
+        × (now (r .part)
+        ≡ rawPart (now (payload .entry))
+        (rawCall (now (objects .entry)) (now (slots .entry)) (now (payload .entry)) ts object off len) len) ⌝ }
 {
     let answer = raw_found(objects, slots, payload, ts, object, off, len);
     let part = raw_lent(payload, answer, len);
@@ -137,7 +142,8 @@ pub fn raw_run_at(
     off: u64,
     len: u64,
 ) -> RawAnswer
-    ensures { λ r. ⌜ r ≡ rawCall (now (objects .entry)) (now (slots .entry)) (now (payload .entry)) ts object off len ⌝ }
+    ensures { λ r. ⌜ rawNumbers r
+        ≡ rawNumbers (rawCall (now (objects .entry)) (now (slots .entry)) (now (payload .entry)) ts object off len) ⌝ }
 {
     raw_at(objects, slots, payload, ts, object, off, len).answer
 }
@@ -152,7 +158,9 @@ pub fn raw_part_at<'a>(
     off: u64,
     len: u64,
 ) -> &'a [u8]
-    ensures { λ r. ⌜ now r ≡ rawPart (now (payload .entry)) (rawCall (now (objects .entry)) (now (slots .entry)) (now (payload .entry)) ts object off len) len ⌝ }
+    ensures { λ r. ⌜ now r
+        ≡ rawPart (now (payload .entry))
+        (rawCall (now (objects .entry)) (now (slots .entry)) (now (payload .entry)) ts object off len) len ⌝ }
 {
     raw_at(objects, slots, payload, ts, object, off, len).part
 }
@@ -187,7 +195,8 @@ fn raw_lent<'a>(payload: &'a [u8], answer: RawAnswer, len: u64) -> &'a [u8]
 }
 
 pub fn array_len(objects: &[u8], slots: &[u8], payload: &[u8], ts: u8, object: usize) -> LenAnswer
-    ensures { λ r. ⌜ r ≡ lenCall (now (objects .entry)) (now (slots .entry)) (now (payload .entry)) ts object ⌝ }
+    ensures { λ r. ⌜ lenNumbers r
+        ≡ lenNumbers (lenCall (now (objects .entry)) (now (slots .entry)) (now (payload .entry)) ts object) ⌝ }
 {
     match check_at(objects, slots, payload, object) {
         Check::Ok => {
@@ -206,7 +215,8 @@ pub fn array_elem(
     object: usize,
     element: u64,
 ) -> ElemAnswer
-    ensures { λ r. ⌜ r ≡ elemCall (now (objects .entry)) (now (slots .entry)) (now (payload .entry)) ts object element ⌝ }
+    ensures { λ r. ⌜ elemNumbers r
+        ≡ elemNumbers (elemCall (now (objects .entry)) (now (slots .entry)) (now (payload .entry)) ts object element) ⌝ }
 {
     match check_at(objects, slots, payload, object) {
         Check::Ok => {
@@ -227,7 +237,8 @@ pub fn bca_rt_off(
     object: usize,
     off: u32,
 ) -> OffAnswer
-    ensures { λ r. ⌜ r ≡ offCall (now (objects .entry)) (now (slots .entry)) (now (payload .entry)) ts unit object off ⌝ }
+    ensures { λ r. ⌜ offNumbers r
+        ≡ offNumbers (offCall (now (objects .entry)) (now (slots .entry)) (now (payload .entry)) ts unit object off) ⌝ }
 {
     match check_at(objects, slots, payload, object) {
         Check::Ok => {
@@ -268,7 +279,7 @@ fn raw_answer(found: RawAt) -> RawAnswer
 // Small integers.
 
 pub fn decode_smi_bytes(d: &[u8]) -> Smi
-    ensures { λ r. ⌜ r ≡ smiBytes (now (d .entry)) ⌝ }
+    ensures { λ r. ⌜ smiNumbers r ≡ smiNumbers (smiBytes (now (d .entry))) ⌝ }
 {
     match d.len() {
         8 => smi_high(words::u32_at(d, 0), words::u32_at(d, 4)),

@@ -1,7 +1,9 @@
+use mathlib.Core.Path.{ap}
 use denote.Ref.{now}
 use Rattle.store.specs.Records.{objectOf}
 use Rattle.tables.specs.Layout.{layoutOf}
 use Rattle.header.specs.Calls.{headerCall}
+use Rattle.header.specs.Numbers.{headerNumbers}
 use Rattle.header.proofs.Searched.{header-searched, code-ordered}
 use borrow.Author.Needs.{needs}
 use Rattle.header.proofs.header_at.Statement.{statement}
@@ -36,7 +38,7 @@ returns c =
       ← header-searched (now (a .slots)) (now (a .payload)) (objectOf (now (a .objects)) (a .object)) (layoutOf (now (a .layout))) ordered,
       ← c .before .before .object-of .ensures,
       ← c .before .layout-of .ensures,
-    ) (c .header-of .ensures)
+    ) (ap headerNumbers (c .header-of .ensures))
 
 returns-2 : tie.Need-returns-2
 unfolding headerCall
