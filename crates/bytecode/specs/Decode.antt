@@ -8,10 +8,11 @@ use Rattle.refusal.specs.declared.Refusal.{Refusal}
 use Rattle.refusal.specs.Check.{firstRefusal, refuseUnless, guarded}
 use Rattle.tables.specs.Check.{checkTable}
 use Rattle.tables.specs.Layout.{signedValue}
+use Rattle.flow.specs.Opcodes.{opcodesOf}
 use Rattle.decoder.specs.declared.Outcome.{Outcome}
 use Rattle.decoder.specs.declared.Decoded.{Decoded}
 use Rattle.decoder.specs.Head.{blank}
-use Rattle.decoder.specs.Listed.{decodes}
+use Rattle.decoder.specs.Listed.{decodesBy}
 
 -- row 10: "lent code above 65,536 bytes"
 abbrev pub checkCode : List ℕ → Check
@@ -24,4 +25,5 @@ refusedBy r = record { outcome = Outcome.Refused r; instr = blank }
 -- it is lent no name files
 unfoldable pub decodeOne : List ℕ → List ℕ → List ℕ → List ℕ → ℕ → Decoded
 decodeOne ops types layout code start =
-    guarded (firstRefusal (checkTable ops types [] [] layout) (checkCode code)) refusedBy (decodes code ops types (signedValue layout 13) start)
+    guarded (firstRefusal (checkTable ops types [] [] layout) (checkCode code)) refusedBy
+    (decodesBy code (opcodesOf ops) types (signedValue layout 13) start)

@@ -18,7 +18,7 @@ use Rattle.operand.specs.declared.Operand.{Operand}
 use Rattle.decoder.specs.declared.Instr.{Instr}
 use Rattle.flow.specs.declared.Kind.{Kind}
 use Rattle.flow.specs.declared.Flow.{Flow}
-use Rattle.bytecode.specs.Texts.{NameFiles, paramName, regName, listName, operandText, instrName}
+use Rattle.bytecode.specs.Texts.{NameFiles, paramName, regName, listName, operandText, nameBy, instrName}
 use Rattle.serializer.specs.declared.Elem.{Elem}
 use Rattle.targets.specs.Targets.{operandOf, here, distanceBy, targetFrom, targetBack, targetBy, jumpTarget, jumpTable, entryAt}
 use Rattle.targets.specs.declared.Number.{Number}
@@ -58,7 +58,7 @@ unfolding intrinsicName
 intrinsic-room s id = either (ltb id (length s / 64)) _ _ (name-room s _ 64) (simp length-append (omega (arith, digits-few id)))
 
 instr-room : (ops : List ℕ) (opcode scale : ℕ) → length (instrName ops opcode scale) ≤ 50
-unfolding instrName
+unfolding nameBy
 instr-room ops opcode scale =
     let h : length (cond (eqb scale 1) [] (cond (eqb scale 2) (ascii ".Wide") (ascii ".ExtraWide"))) ≤ 10 =
     either (eqb scale 1) _ _ (omega arith) (either (eqb scale 2) _ _ (omega arith) (omega arith)) in

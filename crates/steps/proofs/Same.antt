@@ -37,7 +37,7 @@ use Rattle.targets.specs.declared.Number.the-variants as number
 use Rattle.targets.specs.declared.Table.{Table}
 use Rattle.targets.specs.declared.Table.the-variants as table
 use Rattle.steps.specs.declared.Way.{Way}
-use Rattle.steps.specs.Steps.{Source, entrySteps, entriesSteps, tableSteps, stepsBy, instrSteps, stepsAt, listing, offset, walkGraph}
+use Rattle.steps.specs.Steps.{Source, entrySteps, entriesSteps, tableSteps, jumpsBy, onBy, instrSteps, stepsAt, listing, offset, walkGraph}
 use Rattle.steps.specs.mirror.Ways.{entryStep, entryWays, tableWays, waysBy, waySteps, wayOf, wayAt, searchGraph}
 
 -- ---- the steps of one instruction
@@ -91,7 +91,7 @@ module _ (el : ℕ → Elem) {x : Step} where
     unfolding waySteps wayOf instrSteps
     ways-there = go (flow .kind)
       where
-        go : (k : Kind) → Among x (waysBy k el (wayOf el pooled flow i)) → Among x (stepsBy k (jumpTarget el flow i) (tableSteps el (here i) (jumpTable pooled flow i)) (i .end))
+        go : (k : Kind) → Among x (waysBy k el (wayOf el pooled flow i)) → Among x (jumpsBy k (jumpTarget el flow i) (tableSteps el (here i) (jumpTable pooled flow i)) ++ onBy k (i .end))
         go On h = h
         go Ends h = h
         go Jumps h = h
@@ -103,7 +103,7 @@ module _ (el : ℕ → Elem) {x : Step} where
     unfolding waySteps wayOf instrSteps
     ways-back = go (flow .kind)
       where
-        go : (k : Kind) → Among x (stepsBy k (jumpTarget el flow i) (tableSteps el (here i) (jumpTable pooled flow i)) (i .end)) → Among x (waysBy k el (wayOf el pooled flow i))
+        go : (k : Kind) → Among x (jumpsBy k (jumpTarget el flow i) (tableSteps el (here i) (jumpTable pooled flow i)) ++ onBy k (i .end)) → Among x (waysBy k el (wayOf el pooled flow i))
         go On h = h
         go Ends h = h
         go Jumps h = h

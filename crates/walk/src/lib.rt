@@ -20,8 +20,9 @@ ghost use Rattle.graph.specs.mirror.Queue.{Held, Grown, SuccIn, Quiet, Lowest, 
 ghost use Rattle.steps.specs.mirror.Ways.{wayAt};
 ghost use mathlib.Core.List.{[]};
 ghost use Rattle.decoder.specs.declared.Outcome.{Outcome as OutcomeIs};
+ghost use Rattle.function.specs.Files.{Files, filesOf, lentFiles};
 ghost use Rattle.walk.specs.Walk.{walkFound, walkSource, WalkedAs, Promise, objectSource, walkCall, lentSource, walkLent};
-ghost use Rattle.walk.specs.mirror.Search.{sourceOf, graphOf, Tabled, Ready, StartsAre, Started, foundAs, Answered, sourceBy, walkSearched};
+ghost use Rattle.walk.specs.mirror.Search.{sourceOf, graphOf, Tabled, Ready, StartsAre, Started, foundAs, WalkedBy, Answered, sourceBy, walkSearched};
 
 // The answer to a walk check: closed, or the steps of the shortest walk that leaves and the offset it leaves from, or a refusal.
 pub enum Walked {
@@ -58,7 +59,9 @@ pub fn walk(
     payload: &[u8],
     object: usize,
 ) -> Walked
-    ensures { λ r. ⌜ WalkedAs (walkCall (record { opcodes = now (opcodes .entry); types = now (types .entry); runtime = now (runtime .entry); intrinsic = now (intrinsic .entry); layout = now (layout .entry); objects = now (objects .entry); slots = now (slots .entry); payload = now (payload .entry) }) object (now (marks .entry))) r (now (marks .exit)) × Promise (objectSource (record { opcodes = now (opcodes .entry); types = now (types .entry); runtime = now (runtime .entry); intrinsic = now (intrinsic .entry); layout = now (layout .entry); objects = now (objects .entry); slots = now (slots .entry); payload = now (payload .entry) }) object) r ⌝ }
+    ensures { λ r. let f : Files = filesOf (now (opcodes .entry)) (now (types .entry)) (now (runtime .entry)) (now (intrinsic .entry))
+        (now (layout .entry)) (now (objects .entry)) (now (slots .entry)) (now (payload .entry)) in
+        ⌜ WalkedAs (walkCall f object (now (marks .entry))) r (now (marks .exit)) × Promise (objectSource f object) r (now (marks .exit)) ⌝ }
 {
     let check = function::check_files(
         opcodes,
@@ -100,7 +103,10 @@ pub fn walk_code(
     payload: &[u8],
     object: PoolObject,
 ) -> Walked
-    ensures { λ r. ⌜ WalkedAs (walkLent (record { opcodes = now (opcodes .entry); types = now (types .entry); runtime = []; intrinsic = []; layout = now (layout .entry); objects = now (objects .entry); slots = now (slots .entry); payload = now (payload .entry) }) object (now (code .entry)) (now (marks .entry))) r (now (marks .exit)) × Promise (lentSource (record { opcodes = now (opcodes .entry); types = now (types .entry); runtime = []; intrinsic = []; layout = now (layout .entry); objects = now (objects .entry); slots = now (slots .entry); payload = now (payload .entry) }) object (now (code .entry))) r ⌝ }
+    ensures { λ r. let f : Files = lentFiles (now (opcodes .entry)) (now (types .entry)) (now (layout .entry))
+        (now (objects .entry)) (now (slots .entry)) (now (payload .entry)) in
+        ⌜ WalkedAs (walkLent f object (now (code .entry)) (now (marks .entry))) r (now (marks .exit))
+        × Promise (lentSource f object (now (code .entry))) r (now (marks .exit)) ⌝ }
 {
     let check = function::check_lent(
         code,
@@ -135,7 +141,7 @@ fn walk_object(
     payload: &[u8],
     object: Object,
 ) -> Walked
-    ensures { λ r. ⌜ WalkedAs (walkSearched (record { opcodes = now (opcodes .entry); types = now (types .entry); runtime = now (runtime .entry); intrinsic = now (intrinsic .entry); layout = now (layout .entry); objects = now (objects .entry); slots = now (slots .entry); payload = now (payload .entry) }) object (now (marks .entry))) r (now (marks .exit)) ⌝ }
+    ensures { λ r. ⌜ WalkedBy (walkSearched (record { opcodes = now (opcodes .entry); types = now (types .entry); runtime = now (runtime .entry); intrinsic = now (intrinsic .entry); layout = now (layout .entry); objects = now (objects .entry); slots = now (slots .entry); payload = now (payload .entry) }) object (now (marks .entry))) r (now (marks .exit)) ⌝ }
 {
     let shape = tables::layout_of(layout);
     match header::header_of(slots, payload, object, shape) {
@@ -160,7 +166,7 @@ fn walk_source(
     pool: Pool,
 ) -> Walked
     requires { ⌜ length (now code) ≤ 65536 ⌝ }
-    ensures { λ r. ⌜ WalkedAs (walkSource (sourceBy (now (code .entry)) (now (opcodes .entry)) (now (types .entry)) (now (slots .entry)) (now (payload .entry)) shape pool) (now (marks .entry))) r (now (marks .exit)) ⌝ }
+    ensures { λ r. ⌜ WalkedBy (walkSource (sourceBy (now (code .entry)) (now (opcodes .entry)) (now (types .entry)) (now (slots .entry)) (now (payload .entry)) shape pool) (now (marks .entry))) r (now (marks .exit)) ⌝ }
 {
     let prefixes = tables::prefix_ops(opcodes);
     let flows = flow::flow_numbers(opcodes);
@@ -187,7 +193,7 @@ fn walk_sized(
     setup: Setup,
 ) -> Walked
     requires { ⌜ (length (now code) ≤ 65536) × Tabled (now opcodes) (now flows) setup ⌝ }
-    ensures { λ r. ⌜ WalkedAs (walkSource (sourceOf (now (code .entry)) (now (opcodes .entry)) (now (types .entry)) (now (slots .entry)) (now (payload .entry)) setup) (now (marks .entry))) r (now (marks .exit)) ⌝ }
+    ensures { λ r. ⌜ WalkedBy (walkSource (sourceOf (now (code .entry)) (now (opcodes .entry)) (now (types .entry)) (now (slots .entry)) (now (payload .entry)) setup) (now (marks .entry))) r (now (marks .exit)) ⌝ }
 {
     if code.len() <= 2048 {
         return walk_short(marks, code, opcodes, types, slots, payload, flows, setup);
@@ -206,7 +212,7 @@ fn walk_short(
     setup: Setup,
 ) -> Walked
     requires { ⌜ (length (now code) ≤ 2048) × Tabled (now opcodes) (now flows) setup ⌝ }
-    ensures { λ r. ⌜ WalkedAs (walkSource (sourceOf (now (code .entry)) (now (opcodes .entry)) (now (types .entry)) (now (slots .entry)) (now (payload .entry)) setup) (now (marks .entry))) r (now (marks .exit)) ⌝ }
+    ensures { λ r. ⌜ WalkedBy (walkSource (sourceOf (now (code .entry)) (now (opcodes .entry)) (now (types .entry)) (now (slots .entry)) (now (payload .entry)) setup) (now (marks .entry))) r (now (marks .exit)) ⌝ }
 {
     let mut starts = [0u8; 2048];
     let mut queue = [0u16; 2048];
@@ -235,7 +241,7 @@ fn walk_long(
     setup: Setup,
 ) -> Walked
     requires { ⌜ (length (now code) ≤ 65536) × Tabled (now opcodes) (now flows) setup ⌝ }
-    ensures { λ r. ⌜ WalkedAs (walkSource (sourceOf (now (code .entry)) (now (opcodes .entry)) (now (types .entry)) (now (slots .entry)) (now (payload .entry)) setup) (now (marks .entry))) r (now (marks .exit)) ⌝ }
+    ensures { λ r. ⌜ WalkedBy (walkSource (sourceOf (now (code .entry)) (now (opcodes .entry)) (now (types .entry)) (now (slots .entry)) (now (payload .entry)) setup) (now (marks .entry))) r (now (marks .exit)) ⌝ }
 {
     let mut starts = [0u8; 65536];
     let mut queue = [0u16; 65536];
@@ -267,7 +273,7 @@ fn walk_in(
     queue: &mut [u16],
 ) -> Walked
     requires { ⌜ (length (now code) ≤ 65536) × (length (now code) ≤ length (now starts)) × (length (now code) ≤ length (now queue)) × Tabled (now opcodes) (now flows) setup ⌝ }
-    ensures { λ r. ⌜ WalkedAs (walkSource (sourceOf (now (code .entry)) (now (opcodes .entry)) (now (types .entry)) (now (slots .entry)) (now (payload .entry)) setup) (now (marks .entry))) r (now (marks .exit)) ⌝ }
+    ensures { λ r. ⌜ WalkedBy (walkSource (sourceOf (now (code .entry)) (now (opcodes .entry)) (now (types .entry)) (now (slots .entry)) (now (payload .entry)) setup) (now (marks .entry))) r (now (marks .exit)) ⌝ }
 {
     let n = code.len();
     let s = &mut starts[..n];
@@ -319,7 +325,7 @@ fn search(
     queue: &mut [u16],
 ) -> Walked
     requires { ⌜ (length (now marks) ≡ length (now code)) × (0 < length (now code)) × (length (now code) ≤ 65536) × (length (now code) ≤ length (now queue)) × Tabled (now opcodes) (now flows) setup × (listed (now code) (now opcodes) (now types) (setup .rfs) .outcome ≡ OutcomeIs.End) × StartsAre ((graphOf (now code) (now opcodes) (now types) (now slots) (now payload) setup) .starts) (now starts) ⌝ }
-    ensures { λ r. ⌜ WalkedAs (walkFound (sourceOf (now (code .entry)) (now (opcodes .entry)) (now (types .entry)) (now (slots .entry)) (now (payload .entry)) setup) []) r (now (marks .exit)) ⌝ }
+    ensures { λ r. ⌜ WalkedBy (walkFound (sourceOf (now (code .entry)) (now (opcodes .entry)) (now (types .entry)) (now (slots .entry)) (now (payload .entry)) setup) []) r (now (marks .exit)) ⌝ }
 {
     clear(marks);
     levels(

@@ -6,7 +6,7 @@ use native.Mathlib.Nat.{sub-zero}
 use borrow.Author.Needs.{needs}
 use denote.Ref.{now}
 use Rattle.targets.specs.Targets.{entryAt}
-use Rattle.targets.specs.mirror.Search.{poolSearched}
+use Rattle.lines.specs.mirror.View.{elemsOf}
 use Rattle.lines.specs.Line.{entriesFrom, entryText, shownAfter}
 use Rattle.lines.proofs.Written.{Written, written-none, written-more, written-all, written-kept}
 use Rattle.lines.proofs.Laws.{entries-next, entries-end}
@@ -14,12 +14,12 @@ use Rattle.lines.proofs.put_entries.Statement.{statement}
 use Rattle.lines.proofs.put_entries.Tie as tie
 
 abbrev Inv-loop : tie.InvT-loop
-Inv-loop out₀ at slots payload ts pool here e n p₀ shown₀ k₀ out p shown k =
+Inv-loop out₀ at slots payload f here e pool n p₀ shown₀ k₀ out p shown k =
     (k ≤ n) × (n ≡ e .count)
-    × Written out₀ at (entriesFrom (poolSearched slots payload ts pool) here e false 0 n) (entriesFrom (poolSearched slots payload ts pool) here e shown k (n - k)) out p
+    × Written out₀ at (entriesFrom (elemsOf slots payload f) here e false 0 n) (entriesFrom (elemsOf slots payload f) here e shown k (n - k)) out p
 
 abbrev μ-loop : tie.MeasureT-loop
-μ-loop out₀ at slots payload ts pool here e n p₀ shown₀ k₀ out p shown k = n - k
+μ-loop out₀ at slots payload f here e pool n p₀ shown₀ k₀ out p shown k = n - k
 
 saturating-add-requires : tie.Need-saturating-add-requires Inv-loop μ-loop
 saturating-add-requires c κs = search needs
@@ -47,7 +47,7 @@ loop-again c =
     let a = c .before .before .before .before .before .before .before .before .before .before .before .before .args in
     let l = c .before .before .before .before .before .before .before .loop in
     let n = a .e .count in
-    let el = poolSearched (now (a .slots)) (now (a .payload)) (a .ts) (a .pool) in
+    let el = elemsOf (now (a .slots)) (now (a .payload)) (a .f) in
     let s = c .shown-after .ensures ∙ ap (shownAfter (l .shown)) (c .before .before .before .before .before .entry-at .ensures) in
     let b = rw (c .before .before .before .before .before .entry-at .ensures) at (c .before .before .before .put-entry .ensures) in (
       omega arith,
@@ -63,7 +63,7 @@ returns : tie.Need-returns Inv-loop μ-loop
 returns c =
     let a = c .before .before .before .before .before .before .args in
     let l = c .before .loop in
-    let el = poolSearched (now (a .slots)) (now (a .payload)) (a .ts) (a .pool) in
+    let el = elemsOf (now (a .slots)) (now (a .payload)) (a .f) in
     written-all (entries-end el (a .here) (a .e) (l .shown) (a .e .count) (l .k) (c .loop-test .left)) (l .inv .2)
 
 pub put-entries-spec : {M : Type 1} → statement M

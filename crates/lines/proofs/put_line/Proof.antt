@@ -1,5 +1,4 @@
 use native.Mathlib.Omega.{arith}
-use mir.Facts.{toZ-ofZ}
 use Rattle.text.proofs.Put.{then, kept}
 use Rattle.lines.specs.Line.{lineBy}
 use borrow.Author.Needs.{needs}
@@ -39,7 +38,7 @@ returns c =
     let h = c .before .before .before .before .before .before .before .before .before .before .before .before .before .before .before .before .before .before .before .before .before .before .before .before .before .before .before .before .before .before .before .before .before .before .before .good in
     rw (← c .before .before .before .before .before .before .before .before .before .before .before .before .before .before .jump-target .ensures, ← c .before .before .before .before .before .before .before .before .before .jump-table .ensures, ← c .before .before .before .before .before .before .before .before .here .ensures)
     (then (omega (arith, h)) (then (omega (arith, h)) (then (omega (arith, h)) (then (omega (arith, h)) (then (omega (arith, h))
-    (c .before .before .before .before .before .before .before .before .before .before .before .before .before .before .before .before .before .before .before .before .before .before .before .before .before .put-place .ensures) (c .before .before .before .before .before .before .before .before .before .before .before .before .before .before .before .before .before .before .before .before .before .instr-name .ensures)) (simp (toZ-ofZ (c .before .before .before .before .before .before .before .before .before .before .before .before .before .before .before .before .before .before .before .before .before .before .before .before .before .before .before .before .before .before .before .before .before .before .before .fits .params)) at (c .before .before .before .before .before .before .before .before .before .before .before .before .before .before .before .before .before .put-operands .ensures))) (c .before .before .before .before .before .before .before .before .before .before .before .before .put-target .ensures)) (c .before .before .before .before .before .before .put-table .ensures)) (c .before .before .put-byte .ensures))
+    (c .before .before .before .before .before .before .before .before .before .before .before .before .before .before .before .before .before .before .before .before .before .before .before .before .before .put-place .ensures) (c .before .before .before .before .before .before .before .before .before .before .before .before .before .before .before .before .before .before .before .before .before .instr-name .ensures)) (c .before .before .before .before .before .before .before .before .before .before .before .before .before .before .before .before .before .put-operands .ensures)) (c .before .before .before .before .before .before .before .before .before .before .before .before .put-target .ensures)) (c .before .before .before .before .before .before .put-table .ensures)) (c .before .before .put-byte .ensures))
 
 same-length : tie.Need-same-length
 same-length c = kept (returns c)

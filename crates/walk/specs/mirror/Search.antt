@@ -24,9 +24,8 @@ use Rattle.function.specs.Files.{Files}
 use Rattle.function.specs.Code.{codeOf, headerCheck, codeCheck, listingCheck}
 use Rattle.function.specs.mirror.Pool.{poolFound}
 use Rattle.graph.specs.Lists.{elem}
-use Rattle.graph.specs.Graph.{Graph}
+use Rattle.graph.specs.Graph.{Graph, Answer}
 use Rattle.graph.specs.Graph.Finding.{closed, leaves}
-use Rattle.graph.specs.mirror.Right.{Answer}
 use Rattle.graph.proofs.Steps.{Lawful}
 use Rattle.steps.specs.Steps.{Source, offset}
 use Rattle.steps.specs.mirror.Ways.{searchGraph}
@@ -69,6 +68,10 @@ pub record Started (ops : List ℕ) (u : Setup) (l : Listing) (n : ℕ) (S : Lis
 abbrev pub foundAs : Found → Option ℕ
 foundAs (found-as.At o) = some o
 foundAs found-as.Nothing = none
+
+-- an answer r and marks M are those of a call
+abbrev pub WalkedBy : Walked × List ℕ → Walked → List ℕ → Type 0
+WalkedBy a r M = (r ≡ a .0) × (M ≡ a .1)
 
 -- the answer is right, and so are the marks; a search refuses nothing
 abbrev pub Answered : Graph → ℕ → List ℕ → Walked → Type 0
