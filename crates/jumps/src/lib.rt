@@ -1,7 +1,6 @@
 // The target of a jump, and the table of a switch and its entries, at a place of lent code, with 01's checks of all that is lent.
 use decoder::Decoded;
 use decoder::Outcome;
-use flow::Flow;
 use function::PoolObject;
 use refusal::Check;
 use refusal::Refusal;
@@ -11,10 +10,10 @@ use targets::Pool;
 use targets::Table;
 use targets::Target;
 ghost use mathlib.Core.Path.{_≡_};
-ghost use mathlib.Core.List.{[]};
-ghost use Rattle.flow.specs.Flow.{flowOf};
 ghost use Rattle.targets.specs.Targets.{found};
 ghost use Rattle.targets.specs.mirror.Search.{poolSearched};
+ghost use Rattle.function.specs.Files.{lentFiles};
+ghost use Rattle.jumps.specs.Numbers.{targetNumbers, tableNumbers, entryNumbers};
 ghost use Rattle.jumps.specs.Jumps.{targetTold, targetOf, targetCall, tableTold, tableOf, tableCall, entryTold, entryIn, entryOf, entryCall};
 
 // Where a jump goes. End is the code's end; Nothing is no target.
@@ -56,7 +55,9 @@ pub fn jump_target(
     payload: &[u8],
     object: PoolObject,
 ) -> TargetAnswer
-    ensures { λ r. ⌜ r ≡ targetCall (record { opcodes = now (opcodes .entry); types = now (types .entry); runtime = []; intrinsic = []; layout = now (layout .entry); objects = now (objects .entry); slots = now (slots .entry); payload = now (payload .entry) }) object (now (code .entry)) at ⌝ }
+    ensures { λ r. ⌜ targetNumbers at r ≡ targetNumbers at (targetCall
+        (lentFiles (now (opcodes .entry)) (now (types .entry)) (now (layout .entry)) (now (objects .entry)) (now (slots .entry)) (now (payload .entry)))
+        object (now (code .entry)) at) ⌝ }
 {
     match function::check_lent(
         code,
@@ -90,7 +91,9 @@ pub fn jump_table(
     payload: &[u8],
     object: PoolObject,
 ) -> TableAnswer
-    ensures { λ r. ⌜ r ≡ tableCall (record { opcodes = now (opcodes .entry); types = now (types .entry); runtime = []; intrinsic = []; layout = now (layout .entry); objects = now (objects .entry); slots = now (slots .entry); payload = now (payload .entry) }) object (now (code .entry)) at ⌝ }
+    ensures { λ r. ⌜ tableNumbers at r ≡ tableNumbers at (tableCall
+        (lentFiles (now (opcodes .entry)) (now (types .entry)) (now (layout .entry)) (now (objects .entry)) (now (slots .entry)) (now (payload .entry)))
+        object (now (code .entry)) at) ⌝ }
 {
     match function::check_lent(
         code,
@@ -125,7 +128,9 @@ pub fn jump_entry(
     object: PoolObject,
     k: usize,
 ) -> EntryAnswer
-    ensures { λ r. ⌜ r ≡ entryCall (record { opcodes = now (opcodes .entry); types = now (types .entry); runtime = []; intrinsic = []; layout = now (layout .entry); objects = now (objects .entry); slots = now (slots .entry); payload = now (payload .entry) }) object (now (code .entry)) at k ⌝ }
+    ensures { λ r. ⌜ entryNumbers at r ≡ entryNumbers at (entryCall
+        (lentFiles (now (opcodes .entry)) (now (types .entry)) (now (layout .entry)) (now (objects .entry)) (now (slots .entry)) (now (payload .entry)))
+        object (now (code .entry)) at k) ⌝ }
 {
     match function::check_lent(
         code,
@@ -150,14 +155,6 @@ pub fn jump_entry(
     }
 }
 
-// What an opcode does.
-fn flow_of(opcodes: &[u8], opcode: u8) -> Flow
-    ensures { λ r. ⌜ r ≡ flowOf (now (opcodes .entry)) opcode ⌝ }
-{
-    let op = opcode as usize;
-    flow::flow_by(flow::flow_number(opcodes, op * 64))
-}
-
 // The target of what was decoded.
 fn target_of(
     opcodes: &[u8],
@@ -175,7 +172,7 @@ fn target_of(
         Outcome::End => TargetAnswer::End,
         Outcome::Refused(refusal) => TargetAnswer::Refused(refusal),
         Outcome::Done => {
-            let flow = flow_of(opcodes, instr.opcode);
+            let flow = flow::flow_of(opcodes, instr.opcode);
             target_told(targets::jump_target(slots, payload, ts, pool, flow, instr))
         }
     }
@@ -191,7 +188,7 @@ fn table_of(opcodes: &[u8], pool: Pool, d: Decoded, at: usize) -> TableAnswer
         Outcome::End => TableAnswer::End,
         Outcome::Refused(refusal) => TableAnswer::Refused(refusal),
         Outcome::Done => {
-            let flow = flow_of(opcodes, instr.opcode);
+            let flow = flow::flow_of(opcodes, instr.opcode);
             table_told(targets::jump_table(pool, flow, instr), at)
         }
     }

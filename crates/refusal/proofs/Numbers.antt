@@ -1,7 +1,9 @@
 -- Numbers say all of an answer: each definition of numbers can be read back. Assumes nothing.
 use Prim.Native.Nat.{ℕ, zero, suc}
 use mathlib.Core.Path.{_≡_, refl, sym, ap, _∙_}
+use mathlib.Core.Bool.{cond}
 use mathlib.Core.List.{List, [], _∷_}
+use lib.Dec.{eqb}
 use lib.IntN.{ℤ, pos, negsuc, natAbs}
 use lib.ListN.{getD}
 use Rattle.refusal.specs.declared.Refusal.{Refusal}
@@ -26,6 +28,10 @@ foundOr nothing found [] = nothing
 foundOr nothing found (pos zero ∷ vs) = nothing
 foundOr nothing found (pos (suc n) ∷ vs) = found vs
 foundOr nothing found (negsuc n ∷ vs) = nothing
+
+-- where nothing is found: the end, or not
+abbrev pub endOr : {A : Type 0} → A → A → Numbers → A
+endOr end nothing n = cond (eqb (n .number) 255) end nothing
 
 -- value k, and one that is not negative as a number
 abbrev pub value : ℕ → List ℤ → ℤ
