@@ -11,13 +11,13 @@ use Rattle.decoder.specs.Decode.{decodeAt}
 use Rattle.decoder.specs.Listed.{decodes}
 use Rattle.flow.specs.Flow.{flowOf}
 use Rattle.flow.specs.declared.Flow.{Flow}
+use Rattle.function.specs.declared.Function.{Function}
 use Rattle.graph.specs.Graph.{Graph, isStart}
 use Rattle.graph.specs.mirror.Queue.{stepOf}
 use Rattle.steps.specs.declared.Next.{Next}
 use Rattle.steps.specs.declared.Way.{Way}
 use Rattle.steps.specs.Steps.{Source}
 use Rattle.steps.specs.mirror.Ways.{stepAs, wayOf, waySteps, wayAt, searchGraph}
-use Rattle.walk.specs.declared.Setup.{Setup}
 use Rattle.walk.specs.mirror.Search.{Tabled, StartsAre}
 
 -- a step by its number, of an instruction whose way is known
@@ -35,7 +35,7 @@ unfolding isStart
 start-no g S t b h e no-one = h t ∙ ne-eqb _ _ (λ x. no-one (e ∙ x))
 
 -- what is decoded with the prefix opcodes that were found once
-pub decoded-is : {ops flows : List ℕ} {u : Setup} (code types : List ℕ) (rfs : ℤ) (o : ℕ) → Tabled ops flows u → decodeAt code ops types o rfs (u .wide) (u .extra) ≡ decodes code ops types rfs o
+pub decoded-is : {ops flows : List ℕ} {u : Function} (code types : List ℕ) (rfs : ℤ) (o : ℕ) → Tabled ops flows u → decodeAt code ops types o rfs (u .wide) (u .extra) ≡ decodes code ops types rfs o
 decoded-is {ops} code types rfs o t = rw (t .wide, t .extra) refl
 
 -- where an instruction goes, of what was decoded and its flow
