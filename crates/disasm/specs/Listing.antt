@@ -59,9 +59,13 @@ putText t o = cond (leb (length t) (length o)) (listed-as.Done (length t), t ++ 
 abbrev pub ListedAs : Listed × List ℕ → Listed → List ℕ → Type 0
 ListedAs a r o′ = (r ≡ a .0) × (o′ ≡ a .1)
 
--- the header and the lines, once 11 to 16 are past
+-- the header and the lines
+abbrev pub listingText : View → Header → Listing → List ℕ
+listingText v h l = headerText h ++ linesText v (l .instrs)
+
+-- written once 11 to 16 are past
 unfoldable pub listView : View → Header → Listing → List ℕ → Listed × List ℕ
-listView v h l o = guardedOn (listingCheck (v .opcodes) (v .pooled) l) listed-as.Refused o (putText (headerText h ++ linesText v (l .instrs)) o)
+listView v h l o = guardedOn (listingCheck (v .opcodes) (v .pooled) l) listed-as.Refused o (putText (listingText v h l) o)
 
 abbrev pub listHeader : Files → HeaderAnswer → Pool → (ℕ → Elem) → List ℕ → Listed × List ℕ
 listHeader f (header-answer.Refused r) p el o = (listed-as.Refused r, o)

@@ -3,7 +3,7 @@ use mathlib.Core.Path.{refl, sym, ap, _∙_}
 use mathlib.Core.List.{List}
 use denote.Ref.{now}
 use borrow.Author.Needs.{needs}
-use Rattle.function.specs.Files.{Files}
+use Rattle.function.specs.Files.{filesOf}
 use Rattle.disasm.specs.declared.Listed.{Listed}
 use Rattle.disasm.proofs.Searched.{object-listed}
 use Rattle.disasm.proofs.list_object.Statement.{statement}
@@ -36,7 +36,7 @@ same-length c = search needs
 returns-2 : tie.Need-returns-2
 returns-2 c =
     let a = c .before .before .before .before .before .before .before .before .before .before .before .before .before .before .before .before .before .before .before .args in
-    let f : Files = record { opcodes = now (a .opcodes); types = now (a .types); runtime = now (a .runtime); intrinsic = now (a .intrinsic); layout = now (a .layout); objects = now (a .objects); slots = now (a .slots); payload = now (a .payload) } in
+    let f = filesOf (now (a .opcodes)) (now (a .types)) (now (a .runtime)) (now (a .intrinsic)) (now (a .layout)) (now (a .objects)) (now (a .slots)) (now (a .payload)) in
     let e = object-listed f (a .object) (now (a .out)) (c .before .before .before .before .before .before .before .before .before .layout-of .result) (c .before .before .before .before .pool-of .result) (c .before .before .before .before .before .before .h .given .0 .0) (c .before .before .before .before .before .before .before .before .before .layout-of .ensures) (c .before .before .before .before .pool-of .ensures) (sym (c .before .before .before .before .before .before .before .before .header-of .ensures) ∙ c .before .before .before .before .before .before .h .given .1) in
     let q = c .before .before .list-header .ensures in
     (q .0 ∙ ap (λ (x : Listed × List ℕ). x .0) e, q .1 ∙ ap (λ (x : Listed × List ℕ). x .1) e)
