@@ -119,7 +119,7 @@ returns-3 : tie.Need-returns-3 Inv-loop μ-loop
 returns-3 c =
     let a = c .before .before .before .before .before .before .before .before .args in
     let l = c .before .loop in
-    let e : l .i ≡ length (now (a .code)) = omega (arith, l .inv .going .inside, c .loop-test .left) in
+    let e : l .i ≡ length (now (a .code)) = omega (arith, l .inv .going .pass .inside, c .loop-test .left) in
     marking-end _ _ _ _ (l .inv) (decode-end (now (a .code)) (now (a .opcodes)) (now (a .types)) (a .f .frame .«reg_file_start») (prefixOp (now (a .opcodes)) 1) (prefixOp (now (a .opcodes)) 2) (l .i) e)
 
 pub mark-starts-spec : {M : Type 1} → statement M
