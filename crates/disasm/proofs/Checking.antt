@@ -13,7 +13,7 @@ use Rattle.decoder.specs.declared.Outcome.{Outcome}
 use Rattle.decoder.specs.declared.Decoded.{Decoded}
 use Rattle.flow.specs.Flow.{flowOf}
 use Rattle.targets.specs.Targets.{jumpTable}
-use Rattle.lines.specs.Room.{lineRoom}
+use Rattle.lines.specs.mirror.Room.{lineRoom}
 use Rattle.disasm.specs.mirror.Lines.{headerRoom, linesRoom, Checked}
 use Rattle.function.specs.Code.{tableCheck}
 use Rattle.function.proofs.Passing.{allOf, restOf, Going, going-start, going-refused, going-end, going-instrs, going-done}

@@ -27,7 +27,7 @@ use Rattle.targets.specs.declared.Entries.{Entries}
 use Rattle.targets.specs.declared.Table.{Table}
 use Rattle.targets.specs.declared.Entry.{Entry}
 use Rattle.lines.specs.Line.{View, before, operandsBy, targetText, entryText, shownAfter, entriesFrom, tableText, bytesOf, placeText, lineBy}
-use Rattle.lines.specs.Room.{entriesOf, targetRoom, lineRoom}
+use Rattle.lines.specs.mirror.Room.{entriesOf, targetRoom, lineRoom}
 use Rattle.operand.specs.declared.Operand.the-variants as op
 use Rattle.flow.specs.declared.Kind.the-variants as kind
 use Rattle.targets.specs.declared.Target.the-variants as target

@@ -13,7 +13,7 @@ ghost use mathlib.Core.Bool.{cond, false};
 ghost use Rattle.laws.specs.Ascii.{ascii};
 ghost use Prim.Native.Nat.{_-_, min};
 ghost use Rattle.text.specs.Put.{Put, place};
-ghost use Rattle.lines.specs.Room.{entriesOf, targetRoom, lineRoom};
+ghost use Rattle.lines.specs.mirror.Room.{entriesOf, targetRoom, lineRoom};
 ghost use Rattle.lines.specs.Line.{before, operandsBy, placeText, targetText, entryText, shownAfter, entriesFrom, tableText, lineBy};
 ghost use Rattle.lines.specs.mirror.View.{namesOf, elemsOf, viewOf};
 

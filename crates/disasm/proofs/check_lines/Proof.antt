@@ -15,7 +15,7 @@ use Rattle.flow.specs.Flow.{flowOf}
 use Rattle.flow.specs.declared.Flow.{Flow}
 use Rattle.targets.specs.Targets.{jumpTable, found}
 use Rattle.targets.specs.declared.Table.{Table}
-use Rattle.lines.specs.Room.{lineRoom}
+use Rattle.lines.specs.mirror.Room.{lineRoom}
 use Rattle.function.specs.Code.{tableCheck}
 use Rattle.function.specs.mirror.Function.{decodedBy}
 use Rattle.disasm.proofs.Checking.{RoomInv, room-start, room-end, checked-refused, checked-end, checked-done}

@@ -10,7 +10,7 @@ use Rattle.decoder.specs.declared.Instr.{Instr}
 use Rattle.decoder.specs.Listed.{Listing}
 use Rattle.flow.specs.Flow.{flowOf}
 use Rattle.targets.specs.Targets.{jumpTable}
-use Rattle.lines.specs.Room.{lineRoom}
+use Rattle.lines.specs.mirror.Room.{lineRoom}
 use Rattle.function.specs.Code.{codeCheck, listingCheck}
 use Rattle.disasm.specs.declared.Pass.{Pass}
 
