@@ -16,10 +16,13 @@ ghost use Rattle.flow.specs.Opcodes.{opcodesOf};
 ghost use Rattle.decoder.specs.Listed.{decodesBy};
 ghost use Rattle.bytecode.specs.Texts.{parameterIndex, paramName, regName, listName, operandText, nameBy};
 ghost use Rattle.bytecode.specs.Decode.{checkCode, decodeOne};
+ghost use Rattle.bytecode.specs.Numbers.{decodedNumbers};
 
 // The instruction at place start of lent code: rows 1 to 5 and 10, then 20 and 11 to 15; "end" at the code's length.
 pub fn decode(opcodes: &[u8], types: &[u8], layout: &[u8], code: &[u8], start: usize) -> Decoded
-    ensures { λ r. ⌜ r ≡ decodeOne (now (opcodes .entry)) (now (types .entry)) (now (layout .entry)) (now (code .entry)) start ⌝ }
+    ensures { λ r. ⌜ (decodedNumbers start r
+        ≡ decodedNumbers start (decodeOne (now (opcodes .entry)) (now (types .entry)) (now (layout .entry)) (now (code .entry)) start))
+        × (r .instr ≡ (decodeOne (now (opcodes .entry)) (now (types .entry)) (now (layout .entry)) (now (code .entry)) start) .instr) ⌝ }
 {
     let table = tables::check_table(opcodes, types, b"", b"", layout);
     match refusal::first_refusal(table, check_code(code)) {
