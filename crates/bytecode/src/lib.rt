@@ -13,8 +13,8 @@ ghost use Rattle.text.specs.Texts.{decimal, signedDecimal};
 ghost use Rattle.tables.specs.Texts.{typeName, runtimeName, intrinsicName};
 ghost use Rattle.tables.specs.Layout.{signedValue};
 ghost use Rattle.flow.specs.Opcodes.{opcodesOf};
-ghost use Rattle.decoder.specs.Listed.{decodesBy};
-ghost use Rattle.bytecode.specs.Texts.{parameterIndex, paramName, regName, listName, operandText, nameBy};
+ghost use Rattle.decoder.specs.Listed.{decodes};
+ghost use Rattle.bytecode.specs.Texts.{parameterIndex, paramName, regName, listName, operandText, instrName};
 ghost use Rattle.bytecode.specs.Decode.{checkCode, decodeOne};
 ghost use Rattle.bytecode.specs.Numbers.{decodedNumbers};
 
@@ -86,7 +86,7 @@ pub fn render_operand(
 
 // An instruction's name, with its prefix.
 pub fn instr_name(out: &mut [u8], at: usize, opcodes: &[u8], opcode: u8, scale: u8) -> usize
-    ensures { λ r. ⌜ Put (now (out .entry)) at (nameBy (opcodesOf (now (opcodes .entry))) opcode scale) (now (out .exit)) r ⌝ }
+    ensures { λ r. ⌜ Put (now (out .entry)) at (instrName (opcodesOf (now (opcodes .entry))) opcode scale) (now (out .exit)) r ⌝ }
 {
     let p = text::put_bytes(out, at, tables::op_name(opcodes, opcode));
     if scale == 1 {
@@ -195,7 +195,7 @@ pub fn decode_with(
     code: &[u8],
     start: usize,
 ) -> Decoded
-    ensures { λ r. ⌜ r ≡ decodesBy (now (code .entry)) (opcodesOf (now (opcodes .entry))) (now (types .entry))
+    ensures { λ r. ⌜ r ≡ decodes (now (code .entry)) (opcodesOf (now (opcodes .entry))) (now (types .entry))
         (signedValue (now (layout .entry)) 13) start ⌝ }
 {
     let prefixes = tables::prefix_ops(opcodes);

@@ -16,6 +16,7 @@ ghost use Prim.Native.Nat.{ℕ};
 ghost use Rattle.refusal.specs.declared.Check.the-variants.{Ok};
 ghost use Rattle.text.specs.Put.{Put};
 ghost use Rattle.flow.specs.Flow.{flowOf, Numbered};
+ghost use Rattle.flow.specs.Opcodes.{opcodesOf};
 ghost use Rattle.targets.specs.Targets.{found};
 ghost use Rattle.function.specs.Files.{filesOf};
 ghost use Rattle.function.specs.Code.{codeCheck};
@@ -387,7 +388,8 @@ fn put_lines(
 // 11 to 16, and room for the header and all lines.
 fn check_lines(code: &[u8], opcodes: &[u8], types: &[u8], flows: &[u8], f: Function) -> Pass
     requires { ⌜ Numbered (now opcodes) (now flows) 256 ⌝ }
-    ensures { λ r. ⌜ Checked (now (opcodes .entry)) (found (f .pool)) (listedBy (now (code .entry)) (now (opcodes .entry)) (now (types .entry)) f) r ⌝ }
+    ensures { λ r. ⌜ Checked (opcodesOf (now (opcodes .entry))) (found (f .pool))
+        (listedBy (now (code .entry)) (now (opcodes .entry)) (now (types .entry)) f) r ⌝ }
 {
     let frame = f.frame;
     let rfs = frame.reg_file_start;

@@ -10,6 +10,7 @@ use targets::Pool;
 use targets::Table;
 use targets::Target;
 ghost use mathlib.Core.Path.{_≡_};
+ghost use Rattle.flow.specs.Opcodes.{opcodesOf};
 ghost use Rattle.targets.specs.Targets.{found};
 ghost use Rattle.targets.specs.mirror.Search.{poolSearched};
 ghost use Rattle.function.specs.Files.{lentFiles};
@@ -164,7 +165,7 @@ fn target_of(
     pool: Pool,
     d: Decoded,
 ) -> TargetAnswer
-    ensures { λ r. ⌜ r ≡ targetOf (now (opcodes .entry)) (poolSearched (now (slots .entry)) (now (payload .entry)) ts pool) d ⌝ }
+    ensures { λ r. ⌜ r ≡ targetOf (opcodesOf (now (opcodes .entry))) (poolSearched (now (slots .entry)) (now (payload .entry)) ts pool) d ⌝ }
 {
     let outcome = d.outcome;
     let instr = d.instr;
@@ -180,7 +181,7 @@ fn target_of(
 
 // The table of what was decoded at a place.
 fn table_of(opcodes: &[u8], pool: Pool, d: Decoded, at: usize) -> TableAnswer
-    ensures { λ r. ⌜ r ≡ tableOf (now (opcodes .entry)) (found pool) d at ⌝ }
+    ensures { λ r. ⌜ r ≡ tableOf (opcodesOf (now (opcodes .entry))) (found pool) d at ⌝ }
 {
     let outcome = d.outcome;
     let instr = d.instr;

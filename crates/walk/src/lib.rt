@@ -16,6 +16,7 @@ ghost use mathlib.Core.Bool.{true, false};
 ghost use lib.ListN.{length, getD, replicate};
 ghost use Rattle.decoder.specs.Listed.{listed};
 ghost use Rattle.flow.specs.Flow.{flowOf, Numbered};
+ghost use Rattle.flow.specs.Opcodes.{Opcodes, opcodesOf};
 ghost use Rattle.graph.specs.Graph.{Graph, isStart, Succ, exits};
 ghost use Rattle.graph.specs.mirror.Queue.{Held, Grown, SuccIn, Quiet, Lowest, lowerOf};
 ghost use Rattle.tables.specs.Records.{prefixOp};
@@ -354,8 +355,8 @@ fn mark_starts(
     starts: &mut [u8],
 ) -> Check
     requires { ⌜ Tabled (now opcodes) (now flows) f × (now starts ≡ replicate (length (now code)) 0) ⌝ }
-    ensures { λ r. ⌜ Started (now (opcodes .entry)) f (listed (now (code .entry)) (now (opcodes .entry)) (now (types .entry)) (f .frame .«reg_file_start»))
-        (length (now (code .entry))) (now (starts .exit)) r ⌝ }
+    ensures { λ r. let ops : Opcodes = opcodesOf (now (opcodes .entry)) in
+        ⌜ Started ops f (listed (now (code .entry)) ops (now (types .entry)) (f .frame .«reg_file_start»)) (length (now (code .entry))) (now (starts .exit)) r ⌝ }
 {
     let pool = f.pool;
     let frame = f.frame;

@@ -12,6 +12,7 @@ use Rattle.text.specs.Put.{place}
 use Rattle.decoder.specs.declared.Decoded.{Decoded}
 use Rattle.decoder.proofs.Listed.{past, decode-end}
 use Rattle.flow.specs.Flow.{flowOf}
+use Rattle.flow.specs.Opcodes.{opcodesOf}
 use Rattle.flow.specs.declared.Flow.{Flow}
 use Rattle.targets.specs.Targets.{jumpTable, found}
 use Rattle.targets.specs.declared.Table.{Table}
@@ -23,7 +24,7 @@ use Rattle.disasm.proofs.check_lines.Statement.{statement}
 use Rattle.disasm.proofs.check_lines.Tie as tie
 
 abbrev Inv-loop : tie.InvT-loop
-Inv-loop code opcodes types flows f rfs pool p₀ check₀ i₀ p check i = RoomInv opcodes (found (f .pool)) (decodedBy code opcodes types f) (length code) p check i
+Inv-loop code opcodes types flows f rfs pool p₀ check₀ i₀ p check i = RoomInv (opcodesOf opcodes) (found (f .pool)) (decodedBy code opcodes types f) (length code) p check i
 
 abbrev μ-loop : tie.MeasureT-loop
 μ-loop code opcodes types flows f rfs pool p₀ check₀ i₀ p check i = length code - i
@@ -81,7 +82,7 @@ progress c =
     let a = c .before .before .before .before .before .before .before .before .before .before .before .before .args in
     let e = decoded-is (c .before .before .before) in
     subst (λ (y : Decoded). (c .before .before .before .before .before .loop .i < y .instr .end) × (y .instr .end ≤ length (now (a .code)))) (sym e)
-    (past (now (a .code)) (now (a .opcodes)) (now (a .types)) (a .f .frame .«reg_file_start») (a .f .wide) (a .f .extra) (c .before .before .before .before .before .loop .i)
+    (past (now (a .code)) (opcodesOf (now (a .opcodes))) (now (a .types)) (a .f .frame .«reg_file_start») (a .f .wide) (a .f .extra) (c .before .before .before .before .before .loop .i)
     (ap (λ (y : Decoded). y .outcome) (sym e) ∙ c .enum-told2 .given .1))
 
 -- the flow of its opcode
@@ -110,7 +111,7 @@ returns-3 c =
     let a = c .before .before .before .before .before .before .before .before .args in
     let l = c .before .loop in
     let e : l .i ≡ length (now (a .code)) = omega (arith, l .inv .going .pass .inside, c .loop-test .left) in
-    room-end _ _ _ _ (l .inv) (decode-end (now (a .code)) (now (a .opcodes)) (now (a .types)) (a .f .frame .«reg_file_start») (a .f .wide) (a .f .extra) (l .i) e)
+    room-end _ _ _ _ (l .inv) (decode-end (now (a .code)) (opcodesOf (now (a .opcodes))) (now (a .types)) (a .f .frame .«reg_file_start») (a .f .wide) (a .f .extra) (l .i) e)
 
 pub check-lines-spec : {M : Type 1} → statement M
 check-lines-spec =

@@ -11,6 +11,7 @@ use Rattle.text.proofs.Put.{part}
 use Rattle.decoder.specs.declared.Decoded.{Decoded}
 use Rattle.decoder.proofs.Listed.{past, decode-end}
 use Rattle.flow.specs.Flow.{flowOf}
+use Rattle.flow.specs.Opcodes.{opcodesOf}
 use Rattle.function.specs.mirror.Function.{decodedBy}
 use Rattle.lines.specs.mirror.View.{viewOf}
 use Rattle.lines.proofs.Written.{written-kept}
@@ -91,7 +92,7 @@ progress c =
     let a = c .before .before .before .before .before .before .before .before .before .before .before .before .before .before .before .before .before .before .args in
     let e = decoded-is (c .before .before .before) in
     subst (λ (y : Decoded). (c .before .before .before .before .before .loop .i < y .instr .end) × (y .instr .end ≤ length (now (a .code)))) (sym e)
-    (past (now (a .code)) (now (a .opcodes)) (now (a .types)) (a .f .frame .«reg_file_start») (a .f .wide) (a .f .extra) (c .before .before .before .before .before .loop .i)
+    (past (now (a .code)) (opcodesOf (now (a .opcodes))) (now (a .types)) (a .f .frame .«reg_file_start») (a .f .wide) (a .f .extra) (c .before .before .before .before .before .loop .i)
     (ap (λ (y : Decoded). y .outcome) (sym e) ∙ c .enum-told3 .given .1))
 
 -- the flow of its opcode
@@ -117,7 +118,7 @@ returns-3 c =
     let a = c .before .before .before .before .before .before .before .before .before .before .before .before .before .before .args in
     let l = c .before .loop in
     let e : l .i ≡ length (now (a .code)) = omega (arith, l .inv .pass .inside, c .loop-test .left) in
-    write-end _ _ _ (l .inv) (decode-end (now (a .code)) (now (a .opcodes)) (now (a .types)) (a .f .frame .«reg_file_start») (a .f .wide) (a .f .extra) (l .i) e)
+    write-end _ _ _ (l .inv) (decode-end (now (a .code)) (opcodesOf (now (a .opcodes))) (now (a .types)) (a .f .frame .«reg_file_start») (a .f .wide) (a .f .extra) (l .i) e)
 
 pub put-lines-spec : {M : Type 1} → statement M
 put-lines-spec =

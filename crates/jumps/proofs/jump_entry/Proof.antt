@@ -1,6 +1,7 @@
 use Prim.Native.Nat.{ℕ}
 use mathlib.Core.Path.{sym, ap, _∙_}
 use denote.Ref.{now}
+use Rattle.flow.specs.Opcodes.{opcodesOf}
 use Rattle.tables.specs.declared.Layout.{Layout}
 use Rattle.function.specs.Files.{lentFiles}
 use Rattle.jumps.specs.Numbers.{entryNumbers}
@@ -60,8 +61,8 @@ returns-2 c =
     let p = c .before .before .before .before .before .lent-pool .ensures ∙ ap (λ (x : Layout). lentFound (f .objects) (f .slots) x w) (c .before .before .before .before .before .before .layout-of .ensures) in
     let decoded = c .before .before .before .before .decode-with .ensures in
     let t = c .before .before .before .table-of .ensures
-    ∙ ap (λ (x : Pool). tableOf (f .opcodes) (found x) (c .before .before .before .before .decode-with .result) (a .at)) (lent-pool f w (now (a .code)) ok p)
-    ∙ ap (λ (x : Decoded). tableOf (f .opcodes) (found (lentPool f w)) x (a .at)) decoded in
+    ∙ ap (λ (x : Pool). tableOf (opcodesOf (f .opcodes)) (found x) (c .before .before .before .before .decode-with .result) (a .at)) (lent-pool f w (now (a .code)) ok p)
+    ∙ ap (λ (x : Decoded). tableOf (opcodesOf (f .opcodes)) (found (lentPool f w)) x (a .at)) decoded in
     let from = c .before .here .ensures ∙ ap (λ (x : Decoded). here (x .instr)) decoded in
     rw ok
     (ap (entryNumbers (a .at))

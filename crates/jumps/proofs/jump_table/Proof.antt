@@ -1,5 +1,6 @@
 use mathlib.Core.Path.{sym, ap, _∙_}
 use denote.Ref.{now}
+use Rattle.flow.specs.Opcodes.{opcodesOf}
 use Rattle.tables.specs.declared.Layout.{Layout}
 use Rattle.function.specs.Files.{lentFiles}
 use Rattle.jumps.specs.Numbers.{tableNumbers}
@@ -49,8 +50,8 @@ returns-2 c = let a = c .before .before .before .before .before .before .before 
     rw ok
     (ap (tableNumbers (a .at))
     (c .table-of .ensures
-    ∙ ap (λ (x : Pool). tableOf (f .opcodes) (found x) d (a .at)) (lent-pool f (a .object) (now (a .code)) ok p)
-    ∙ ap (λ (x : Decoded). tableOf (f .opcodes) (found (lentPool f (a .object))) x (a .at)) (c .before .decode-with .ensures)))
+    ∙ ap (λ (x : Pool). tableOf (opcodesOf (f .opcodes)) (found x) d (a .at)) (lent-pool f (a .object) (now (a .code)) ok p)
+    ∙ ap (λ (x : Decoded). tableOf (opcodesOf (f .opcodes)) (found (lentPool f (a .object))) x (a .at)) (c .before .decode-with .ensures)))
 
 pub jump-table-spec : {M : Type 1} → statement M
 jump-table-spec =

@@ -1,6 +1,7 @@
 use Prim.Native.Nat.{ℕ}
 use mathlib.Core.Path.{sym, ap, _∙_}
 use denote.Ref.{now}
+use Rattle.flow.specs.Opcodes.{opcodesOf}
 use Rattle.tables.specs.declared.Layout.{Layout}
 use Rattle.function.specs.Files.{lentFiles}
 use Rattle.jumps.specs.Numbers.{targetNumbers}
@@ -51,9 +52,9 @@ returns-2 c = let a = c .before .before .before .before .before .before .before 
     rw ok
     (ap (targetNumbers (a .at))
     (c .target-of .ensures
-    ∙ ap (λ (x : Layout). targetOf (f .opcodes) (poolSearched (f .slots) (f .payload) (x .«tagged_size») pool) d) (c .before .before .before .layout-of .ensures)
-    ∙ ap (λ (x : ℕ → Elem). targetOf (f .opcodes) x d) el
-    ∙ ap (targetOf (f .opcodes) (lentElem f (a .object))) (c .before .decode-with .ensures)))
+    ∙ ap (λ (x : Layout). targetOf (opcodesOf (f .opcodes)) (poolSearched (f .slots) (f .payload) (x .«tagged_size») pool) d) (c .before .before .before .layout-of .ensures)
+    ∙ ap (λ (x : ℕ → Elem). targetOf (opcodesOf (f .opcodes)) x d) el
+    ∙ ap (targetOf (opcodesOf (f .opcodes)) (lentElem f (a .object))) (c .before .decode-with .ensures)))
 
 pub jump-target-spec : {M : Type 1} → statement M
 jump-target-spec =

@@ -8,11 +8,11 @@ use mir.Val.{SFits}
 use denote.Ref.{now}
 use lib.ListN.{length}
 use Rattle.refusal.specs.Check.{firstRefusal}
-use Rattle.tables.specs.Records.{prefixOp}
 use Rattle.decoder.specs.declared.Decoded.{Decoded}
 use Rattle.decoder.specs.Listed.{decodes}
 use Rattle.decoder.proofs.Listed.{past, decode-end}
 use Rattle.flow.specs.Flow.{flowOf}
+use Rattle.flow.specs.Opcodes.{opcodesOf}
 use Rattle.flow.specs.declared.Flow.{Flow}
 use Rattle.targets.specs.Targets.{jumpTable, found}
 use Rattle.targets.specs.declared.Table.{Table}
@@ -24,7 +24,7 @@ use Rattle.walk.proofs.mark_starts.Statement.{statement}
 use Rattle.walk.proofs.mark_starts.Tie as tie
 
 abbrev Inv-loop : tie.InvT-loop
-Inv-loop code opcodes types flows f starts₀ pool frame check₀ i₀ starts check i = Marking opcodes f (decodes code opcodes types (f .frame .«reg_file_start»)) (length code) starts check i
+Inv-loop code opcodes types flows f starts₀ pool frame check₀ i₀ starts check i = Marking (opcodesOf opcodes) f (decodes code (opcodesOf opcodes) types (f .frame .«reg_file_start»)) (length code) starts check i
 
 abbrev μ-loop : tie.MeasureT-loop
 μ-loop code opcodes types flows f starts₀ pool frame check₀ i₀ starts check i = length code - i
@@ -33,7 +33,7 @@ loop-holds : tie.Need-loop-holds Inv-loop μ-loop
 loop-holds c = marking-start _ _ _ _ (now (c .before .before .before .before .before .before .args .starts)) (c .before .before .before .before .before .before .pre .1)
 
 -- what is decoded at the place that the loop stands at
-is : (c : tie.After-decode-at Inv-loop μ-loop) → let a = c .before .before .before .before .before .before .before .before .before .before .args in c .decode-at .result ≡ decodes (now (a .code)) (now (a .opcodes)) (now (a .types)) (a .f .frame .«reg_file_start») (c .before .before .before .loop .i)
+is : (c : tie.After-decode-at Inv-loop μ-loop) → let a = c .before .before .before .before .before .before .before .before .before .before .args in c .decode-at .result ≡ decodes (now (a .code)) (opcodesOf (now (a .opcodes))) (now (a .types)) (a .f .frame .«reg_file_start») (c .before .before .before .loop .i)
 is c =
     let a = c .before .before .before .before .before .before .before .before .before .before .args in
     let f : SFits w32 (a .f .frame .«reg_file_start») = record { sfits = c .before .struct-told .given .0 .1 } in
@@ -89,8 +89,8 @@ progress c =
     let i = c .before .before .before .before .before .before .loop .i in
     let e = is (c .before .before .before) in
     let done = ap (λ (y : Decoded). y .outcome) (sym e) ∙ c .enum-told2 .given .1 in
-    let q = past (now (a .code)) (now (a .opcodes)) (now (a .types)) (a .f .frame .«reg_file_start») (prefixOp (now (a .opcodes)) 1) (prefixOp (now (a .opcodes)) 2) i done in
-    subst (Own (length (now (a .code))) i) (sym e) (q .0, q .1, own-offset (now (a .code)) (now (a .opcodes)) (now (a .types)) (a .f .frame .«reg_file_start») i done)
+    let q = past (now (a .code)) (opcodesOf (now (a .opcodes))) (now (a .types)) (a .f .frame .«reg_file_start») _ _ i done in
+    subst (Own (length (now (a .code))) i) (sym e) (q .0, q .1, own-offset (now (a .code)) (opcodesOf (now (a .opcodes))) (now (a .types)) (a .f .frame .«reg_file_start») i done)
 
 -- the flow of its opcode
 flow-is : (c : tie.After-flow-at Inv-loop μ-loop) → c .flow-at .result ≡ flowOf (now (c .before .before .before .before .before .before .before .before .before .before .before .before .before .before .args .opcodes)) (c .before .before .before .before .decode-at .result .instr .opcode)
@@ -119,8 +119,8 @@ returns-3 : tie.Need-returns-3 Inv-loop μ-loop
 returns-3 c =
     let a = c .before .before .before .before .before .before .before .before .args in
     let l = c .before .loop in
-    let e : l .i ≡ length (now (a .code)) = omega (arith, l .inv .going .inside, c .loop-test .left) in
-    marking-end _ _ _ _ (l .inv) (decode-end (now (a .code)) (now (a .opcodes)) (now (a .types)) (a .f .frame .«reg_file_start») (prefixOp (now (a .opcodes)) 1) (prefixOp (now (a .opcodes)) 2) (l .i) e)
+    let e : l .i ≡ length (now (a .code)) = omega (arith, l .inv .going .pass .inside, c .loop-test .left) in
+    marking-end _ _ _ _ (l .inv) (decode-end (now (a .code)) (opcodesOf (now (a .opcodes))) (now (a .types)) (a .f .frame .«reg_file_start») _ _ (l .i) e)
 
 pub mark-starts-spec : {M : Type 1} → statement M
 mark-starts-spec =

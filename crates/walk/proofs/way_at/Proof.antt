@@ -6,6 +6,7 @@ use mir.Val.{SFits}
 use denote.Ref.{now}
 use Rattle.decoder.specs.Listed.{decodes}
 use Rattle.flow.specs.Flow.{flowOf}
+use Rattle.flow.specs.Opcodes.{opcodesOf}
 use Rattle.walk.specs.mirror.Search.{sourceOf}
 use Rattle.walk.proofs.Laws.{decoded-is, way-is}
 use borrow.Author.Needs.{needs}
@@ -22,7 +23,7 @@ way-of-requires : tie.Need-way-of-requires
 way-of-requires c κs = search needs
 
 -- what is decoded at o
-is : (c : tie.After-decode-at) → let a = c .before .before .before .before .before .before .before .before .before .args in c .decode-at .result ≡ decodes (now (a .code)) (now (a .opcodes)) (now (a .types)) (a .f .frame .«reg_file_start») (a .o)
+is : (c : tie.After-decode-at) → let a = c .before .before .before .before .before .before .before .before .before .args in c .decode-at .result ≡ decodes (now (a .code)) (opcodesOf (now (a .opcodes))) (now (a .types)) (a .f .frame .«reg_file_start») (a .o)
 is c =
     let a = c .before .before .before .before .before .before .before .before .before .args in
     let f : SFits w32 (a .f .frame .«reg_file_start») = record { sfits = c .before .struct-told .given .0 .1 } in
