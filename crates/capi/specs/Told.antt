@@ -13,18 +13,14 @@ use Rattle.decoder.specs.declared.Instr.{Instr}
 use Rattle.decoder.specs.declared.Outcome.{Outcome}
 use Rattle.decoder.specs.declared.Decoded.{Decoded}
 use Rattle.targets.specs.Targets.{operandOf}
-use Rattle.disasm.specs.declared.Listed.{Listed}
-use Rattle.disasm.specs.declared.Listed.the-variants as listed-as
+use Rattle.text.specs.declared.Written.{Written}
+use Rattle.text.specs.Numbers.{writtenNumbers}
 use Rattle.walk.specs.declared.Walked.{Walked}
 use Rattle.walk.specs.Numbers.{walkedNumbers}
 
--- 01: "An answer, or a refusal: its number and a place". An answer is number 0, and its place is the listing's length. Then the buffer.
-abbrev pub toldAs : Listed → List ℕ → ℕ × ℕ × List ℕ
-toldAs (listed-as.Done n) o = (0, n, o)
-toldAs (listed-as.Refused r) o = (r .number, r .place, o)
-
-abbrev pub listTold : Listed × List ℕ → ℕ × ℕ × List ℕ
-listTold a = toldAs (a .0) (a .1)
+-- The answer of a listing in 01's numbers, as it is told: its number, and its place, which of an answer is the listing's length; then the buffer.
+abbrev pub listTold : Written × List ℕ → ℕ × ℕ × List ℕ
+listTold a = let n = writtenNumbers (a .0) in (n .number, n .place, a .1)
 
 -- the steps that a walk check's numbers tell: their value, or 0 where they have none
 abbrev pub stepsIn : List ℤ → ℕ

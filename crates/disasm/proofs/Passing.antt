@@ -13,7 +13,7 @@ use Rattle.decoder.specs.declared.Decoded.{Decoded}
 use Rattle.decoder.proofs.Passing.{allOf, restOf, PassInv, pass-start, pass-refused, pass-end, pass-instrs, pass-done}
 use Rattle.function.specs.Code.{codeCheck}
 use Rattle.lines.specs.Line.{View, lineText}
-use Rattle.lines.proofs.Written.{Written, written-none, written-more, written-all}
+use Rattle.lines.proofs.PutUpTo.{PutUpTo, up-to-none, up-to-more, up-to-all}
 use Rattle.disasm.specs.Listing.{linesText}
 
 module _ (v : View) (d : ℕ → Decoded) (len : ℕ) where
@@ -21,15 +21,15 @@ module _ (v : View) (d : ℕ → Decoded) (len : ℕ) where
   pub record WriteInv (o : List ℕ) (p₀ : ℕ) (o′ : List ℕ) (p i : ℕ) : Type 0 where
     pub passed : ℕ
     pub pass : PassInv d len passed i
-    pub lines : Written o p₀ (linesText v (allOf d len .instrs)) (linesText v (restOf d len passed i .instrs)) o′ p
+    pub lines : PutUpTo o p₀ (linesText v (allOf d len .instrs)) (linesText v (restOf d len passed i .instrs)) o′ p
 
   pub write-start : (o : List ℕ) (p : ℕ) {r : ℕ} → r ≡ place (p + 0) → WriteInv o p o r 0
-  write-start o p e = let z : suc len - 0 ≡ suc len = omega arith in record { passed = 0; pass = pass-start d len; lines = rw z (written-none o p _ e) }
+  write-start o p e = let z : suc len - 0 ≡ suc len = omega arith in record { passed = 0; pass = pass-start d len; lines = rw z (up-to-none o p _ e) }
 
   module _ {o o′ : List ℕ} {p₀ p i : ℕ} (s : WriteInv o p₀ o′ p i) where
     pub write-end : d i .outcome ≡ Outcome.End → Put o p₀ (linesText v (allOf d len .instrs)) o′ p
     unfolding linesText
-    write-end e = written-all (ap (linesText v) (pass-end d len (s .pass) e .1)) (s .lines)
+    write-end e = up-to-all (ap (linesText v) (pass-end d len (s .pass) e .1)) (s .lines)
 
     write-done : {o″ : List ℕ} {p′ : ℕ} → length o ≤ 2 ^ 63 → d i .outcome ≡ Outcome.Done → i < d i .instr .end → d i .instr .end ≤ len
         → Put o′ p (lineText v (d i .instr)) o″ p′ → WriteInv o p₀ o″ p′ (d i .instr .end)
@@ -37,7 +37,7 @@ module _ (v : View) (d : ℕ → Decoded) (len : ℕ) where
     write-done small e low high put = record {
       passed = suc (s .passed);
       pass = pass-done d len (s .pass) e low high;
-      lines = written-more (lineText v (d i .instr)) (linesText v (restOf d len (suc (s .passed)) (d i .instr .end) .instrs)) small
+      lines = up-to-more (lineText v (d i .instr)) (linesText v (restOf d len (suc (s .passed)) (d i .instr .end) .instrs)) small
           (ap (linesText v) (pass-instrs d len (s .pass) e)) (s .lines) put;
     }
 

@@ -10,11 +10,15 @@ use refusal::Refusal;
 use store::Object;
 use tables::Layout;
 use targets::Pool;
+use text::Written;
 ghost use mathlib.Core.Path.{_≡_};
 ghost use mathlib.Core.List.{List};
 ghost use Prim.Native.Nat.{ℕ};
 ghost use Rattle.refusal.specs.declared.Check.the-variants.{Ok};
 ghost use Rattle.text.specs.Put.{Put};
+ghost use Rattle.text.specs.Written.{putText};
+ghost use Rattle.text.specs.Numbers.{WrittenAs};
+ghost use Rattle.text.specs.mirror.Written.{WrittenBy};
 ghost use Rattle.flow.specs.Flow.{flowOf, Numbered};
 ghost use Rattle.flow.specs.Opcodes.{opcodesOf};
 ghost use Rattle.targets.specs.Targets.{found};
@@ -22,18 +26,12 @@ ghost use Rattle.function.specs.Files.{filesOf};
 ghost use Rattle.function.specs.Code.{codeCheck};
 ghost use Rattle.function.specs.mirror.Function.{listedBy};
 ghost use Rattle.lines.specs.mirror.View.{viewOf};
-ghost use Rattle.disasm.specs.Listing.{headerText, linesText, listingText, putText, ListedAs, listView, listCall};
+ghost use Rattle.disasm.specs.Listing.{headerText, linesText, listingText, listView, listCall};
 ghost use Rattle.disasm.specs.mirror.Lines.{headerRoom, Checked};
 ghost use Rattle.disasm.specs.mirror.Listing.{listWith, listSearched};
 
 // Room for the header lines, which are shorter.
 const HEADER_ROOM: usize = 250;
-
-// The answer to a request for a listing: its length, or a refusal.
-pub enum Listed {
-    Done(usize),
-    Refused(Refusal),
-}
 
 // What the first pass over the instructions answers: the checks of 11 to 16, and room for the header and all lines.
 pub struct Pass {
@@ -54,8 +52,8 @@ pub fn list(
     slots: &[u8],
     payload: &[u8],
     object: usize,
-) -> Listed
-    ensures { λ r. ⌜ ListedAs (listCall
+) -> Written
+    ensures { λ r. ⌜ WrittenAs (listCall
         (filesOf (now (opcodes .entry)) (now (types .entry)) (now (runtime .entry)) (now (intrinsic .entry)) (now (layout .entry))
         (now (objects .entry)) (now (slots .entry)) (now (payload .entry))) object (now (out .entry))) r (now (out .exit)) ⌝ }
 {
@@ -71,7 +69,7 @@ pub fn list(
         object,
     );
     match check {
-        Check::Refused(refusal) => Listed::Refused(refusal),
+        Check::Refused(refusal) => Written::Refused(refusal),
         Check::Ok => list_object(
             out,
             opcodes,
@@ -99,14 +97,14 @@ fn list_object(
     slots: &[u8],
     payload: &[u8],
     object: Object,
-) -> Listed
-    ensures { λ r. ⌜ ListedAs (listSearched
+) -> Written
+    ensures { λ r. ⌜ WrittenBy (listSearched
         (filesOf (now (opcodes .entry)) (now (types .entry)) (now (runtime .entry)) (now (intrinsic .entry)) (now (layout .entry))
         (now (objects .entry)) (now (slots .entry)) (now (payload .entry))) object (now (out .entry))) r (now (out .exit)) ⌝ }
 {
     let shape = tables::layout_of(layout);
     match header::header_of(slots, payload, object, shape) {
-        HeaderAnswer::Refused(refusal) => Listed::Refused(refusal),
+        HeaderAnswer::Refused(refusal) => Written::Refused(refusal),
         HeaderAnswer::At(h) => {
             let pool = function::pool_of(objects, slots, shape, object);
             list_header(
@@ -137,8 +135,8 @@ fn list_header(
     shape: Layout,
     pool: Pool,
     h: Header,
-) -> Listed
-    ensures { λ r. ⌜ ListedAs
+) -> Written
+    ensures { λ r. ⌜ WrittenBy
         (listWith (now (opcodes .entry)) (now (types .entry)) (now (runtime .entry)) (now (intrinsic .entry)) (now (slots .entry))
         (now (payload .entry)) shape pool h (now (out .entry))) r (now (out .exit)) ⌝ }
 {
@@ -175,9 +173,9 @@ fn list_code(
     flows: &[u8],
     f: Function,
     h: Header,
-) -> Listed
+) -> Written
     requires { ⌜ Numbered (now opcodes) (now flows) 256 ⌝ }
-    ensures { λ r. ⌜ ListedAs (listView
+    ensures { λ r. ⌜ WrittenBy (listView
         (viewOf (now (code .entry)) (now (opcodes .entry)) (now (types .entry)) (now (runtime .entry)) (now (intrinsic .entry))
         (now (slots .entry)) (now (payload .entry)) f) h
         (listedBy (now (code .entry)) (now (opcodes .entry)) (now (types .entry)) f) (now (out .entry))) r (now (out .exit)) ⌝ }
@@ -186,10 +184,10 @@ fn list_code(
     let check = first.check;
     let room = first.room;
     match check {
-        Check::Refused(refusal) => Listed::Refused(refusal),
+        Check::Refused(refusal) => Written::Refused(refusal),
         Check::Ok => {
             if room <= out.len() {
-                Listed::Done(put_all(
+                Written::Done(put_all(
                     out,
                     code,
                     opcodes,
@@ -234,9 +232,9 @@ fn list_measured(
     flows: &[u8],
     f: Function,
     h: Header,
-) -> Listed
+) -> Written
     requires { ⌜ Numbered (now opcodes) (now flows) 256 × (codeCheck (listedBy (now code) (now opcodes) (now types) f .outcome) ≡ Ok) ⌝ }
-    ensures { λ r. ⌜ ListedAs (putText (listingText
+    ensures { λ r. ⌜ WrittenBy (putText (listingText
         (viewOf (now (code .entry)) (now (opcodes .entry)) (now (types .entry)) (now (runtime .entry)) (now (intrinsic .entry))
         (now (slots .entry)) (now (payload .entry)) f) h
         (listedBy (now (code .entry)) (now (opcodes .entry)) (now (types .entry)) f)) (now (out .entry))) r (now (out .exit)) ⌝ }
@@ -255,7 +253,7 @@ fn list_measured(
         h,
     );
     if size <= out.len() {
-        Listed::Done(put_all(
+        Written::Done(put_all(
             out,
             code,
             opcodes,
@@ -269,7 +267,7 @@ fn list_measured(
             h,
         ))
     } else {
-        Listed::Refused(Refusal {
+        Written::Refused(Refusal {
             number: refusal::SHORT_OUTPUT,
             place: 0,
         })

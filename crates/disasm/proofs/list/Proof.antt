@@ -1,6 +1,7 @@
 use Prim.Native.Nat.{ℕ}
 use mathlib.Core.List.{List}
-use Rattle.disasm.specs.declared.Listed.{Listed}
+use Rattle.text.specs.declared.Written.{Written}
+use Rattle.text.proofs.Numbers.{written-as}
 use Rattle.store.specs.declared.Object.{Object}
 use Rattle.function.specs.Files.{filesOf}
 use Rattle.disasm.specs.Listing.{listCall}
@@ -42,7 +43,7 @@ returns-2 c =
     let ok = sym (c .before .before .before .before .before .before .before .check-files .ensures) ∙ c .before .before .before .before .before .enum-told .given .1 in
     let e = ap (λ (x : Object). listSearched f x (now (a .out))) (c .before .before .before .object-of .ensures) ∙ listed-searched f (a .object) (now (a .out)) ok in
     let q = c .before .before .list-object .ensures in
-    rw ok (q .0 ∙ ap (λ (x : Listed × List ℕ). x .0) e, q .1 ∙ ap (λ (x : Listed × List ℕ). x .1) e)
+    rw ok (written-as (q .0 ∙ ap (λ (x : Written × List ℕ). x .0) e, q .1 ∙ ap (λ (x : Written × List ℕ). x .1) e))
 
 pub list-spec : {M : Type 1} → statement M
 list-spec =

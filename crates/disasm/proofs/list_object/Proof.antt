@@ -4,7 +4,7 @@ use mathlib.Core.List.{List}
 use denote.Ref.{now}
 use borrow.Author.Needs.{needs}
 use Rattle.function.specs.Files.{filesOf}
-use Rattle.disasm.specs.declared.Listed.{Listed}
+use Rattle.text.specs.declared.Written.{Written}
 use Rattle.disasm.proofs.Searched.{object-listed}
 use Rattle.disasm.proofs.list_object.Statement.{statement}
 use Rattle.disasm.proofs.list_object.Tie as tie
@@ -39,7 +39,7 @@ returns-2 c =
     let f = filesOf (now (a .opcodes)) (now (a .types)) (now (a .runtime)) (now (a .intrinsic)) (now (a .layout)) (now (a .objects)) (now (a .slots)) (now (a .payload)) in
     let e = object-listed f (a .object) (now (a .out)) (c .before .before .before .before .before .before .before .before .before .layout-of .result) (c .before .before .before .before .pool-of .result) (c .before .before .before .before .before .before .h .given .0 .0) (c .before .before .before .before .before .before .before .before .before .layout-of .ensures) (c .before .before .before .before .pool-of .ensures) (sym (c .before .before .before .before .before .before .before .before .header-of .ensures) ∙ c .before .before .before .before .before .before .h .given .1) in
     let q = c .before .before .list-header .ensures in
-    (q .0 ∙ ap (λ (x : Listed × List ℕ). x .0) e, q .1 ∙ ap (λ (x : Listed × List ℕ). x .1) e)
+    (q .0 ∙ ap (λ (x : Written × List ℕ). x .0) e, q .1 ∙ ap (λ (x : Written × List ℕ). x .1) e)
 
 pub list-object-spec : {M : Type 1} → statement M
 list-object-spec =

@@ -14,7 +14,7 @@ use Rattle.flow.specs.Flow.{flowOf}
 use Rattle.flow.specs.Opcodes.{opcodesOf}
 use Rattle.function.specs.mirror.Function.{decodedBy}
 use Rattle.lines.specs.mirror.View.{viewOf}
-use Rattle.lines.proofs.Written.{written-kept}
+use Rattle.lines.proofs.PutUpTo.{up-to-kept}
 use Rattle.disasm.proofs.Passing.{WriteInv, write-start, write-end, refused-at, end-at, done-at}
 use Rattle.disasm.proofs.put_lines.Statement.{statement}
 use Rattle.disasm.proofs.put_lines.Tie as tie
@@ -46,7 +46,7 @@ enum-told : tie.Need-enum-told Inv-loop μ-loop
 enum-told c = search needs
 
 same-length : tie.Need-same-length Inv-loop μ-loop
-same-length c = written-kept (c .before .before .before .before .before .loop .inv .lines)
+same-length c = up-to-kept (c .before .before .before .before .before .loop .inv .lines)
 
 -- decoding comes to the code's end: nothing is refused on the way
 returns : tie.Need-returns Inv-loop μ-loop
@@ -56,7 +56,7 @@ enum-told-2 : tie.Need-enum-told-2 Inv-loop μ-loop
 enum-told-2 c = search needs
 
 same-length-2 : tie.Need-same-length-2 Inv-loop μ-loop
-same-length-2 c = written-kept (c .before .before .before .before .before .loop .inv .lines)
+same-length-2 c = up-to-kept (c .before .before .before .before .before .loop .inv .lines)
 
 returns-2 : tie.Need-returns-2 Inv-loop μ-loop
 returns-2 c = end-at _ _ _ (c .before .before .before .before .before .loop .inv) (c .before .before .before .decode-at .result) (decoded-is (c .before .before .before)) (c .enum-told2 .given .1)
@@ -111,7 +111,7 @@ loop-again c =
     (part (l .out) (c .before .before .before .before .before .min .ensures) w (c .saturating-add2 .ensures))
 
 same-length-3 : tie.Need-same-length-3 Inv-loop μ-loop
-same-length-3 c = written-kept (c .before .loop .inv .lines)
+same-length-3 c = up-to-kept (c .before .loop .inv .lines)
 
 returns-3 : tie.Need-returns-3 Inv-loop μ-loop
 returns-3 c =

@@ -2,6 +2,7 @@
 use Prim.Native.Nat.{ℕ}
 use mathlib.Core.List.{List}
 use lib.ListN.{take, drop}
+use Rattle.text.specs.declared.Written.{Written}
 use Rattle.store.specs.declared.Object.{Object}
 use Rattle.tables.specs.declared.Layout.{Layout}
 use Rattle.tables.specs.Layout.{layoutOf}
@@ -13,18 +14,17 @@ use Rattle.function.specs.Files.{Files}
 use Rattle.function.specs.mirror.Pool.{poolFound}
 use Rattle.function.specs.mirror.Function.{functionOf, listedBy}
 use Rattle.lines.specs.mirror.View.{viewOf}
-use Rattle.disasm.specs.declared.Listed.{Listed}
 use Rattle.disasm.specs.Listing.{listView, listHeader}
 
 -- the listing of a header, a layout and a pool
-abbrev pub listWith : List ℕ → List ℕ → List ℕ → List ℕ → List ℕ → List ℕ → Layout → Pool → Header → List ℕ → Listed × List ℕ
+abbrev pub listWith : List ℕ → List ℕ → List ℕ → List ℕ → List ℕ → List ℕ → Layout → Pool → Header → List ℕ → Written × List ℕ
 listWith opcodes types runtime intrinsic slots payload l p h o =
     let code = take (h .«code_len») (drop (h .«code_at») payload) in
     let f = functionOf opcodes l p (h .«parameter_count») in
     listView (viewOf code opcodes types runtime intrinsic slots payload f) h (listedBy code opcodes types f) o
 
 -- the listing of an object whose files are good
-abbrev pub listSearched : Files → Object → List ℕ → Listed × List ℕ
+abbrev pub listSearched : Files → Object → List ℕ → Written × List ℕ
 listSearched f o out =
     let l = layoutOf (f .layout) in
     let p = poolFound (f .objects) (f .slots) l o in

@@ -13,7 +13,7 @@ use Rattle.targets.specs.Targets.{operandOf}
 use Rattle.lines.specs.Line.{before, operandsBy}
 use Rattle.lines.specs.mirror.View.{namesOf}
 use Rattle.text.proofs.Put.{then}
-use Rattle.lines.proofs.Written.{Written, written-none, written-more, written-all, written-kept}
+use Rattle.lines.proofs.PutUpTo.{PutUpTo, up-to-none, up-to-more, up-to-all, up-to-kept}
 use Rattle.lines.proofs.Laws.{operands-next, operands-end}
 use Rattle.lines.proofs.put_operands.Statement.{statement}
 use Rattle.lines.proofs.put_operands.Tie as tie
@@ -21,7 +21,7 @@ use Rattle.lines.proofs.put_operands.Tie as tie
 abbrev Inv-loop : tie.InvT-loop
 Inv-loop out₀ at types runtime intrinsic f instr frame n p₀ k₀ out p k =
     (k ≤ n) × (n ≡ min (instr .count) 8)
-    × Written out₀ at (operandsBy (namesOf types runtime intrinsic) (f .frame) (f .params) instr 0 n)
+    × PutUpTo out₀ at (operandsBy (namesOf types runtime intrinsic) (f .frame) (f .params) instr 0 n)
     (operandsBy (namesOf types runtime intrinsic) (f .frame) (f .params) instr k (n - k)) out p
 
 abbrev μ-loop : tie.MeasureT-loop
@@ -34,7 +34,7 @@ saturating-add-requires : tie.Need-saturating-add-requires Inv-loop μ-loop
 saturating-add-requires c κs = search needs
 
 loop-holds : tie.Need-loop-holds Inv-loop μ-loop
-loop-holds c = let a = c .before .before .before .before .before .before .before .args in (omega arith, c .before .min .ensures, rw sub-zero (written-none (now (a .out)) (a .at) _ (c .saturating-add .ensures)))
+loop-holds c = let a = c .before .before .before .before .before .before .before .args in (omega arith, c .before .min .ensures, rw sub-zero (up-to-none (now (a .out)) (a .at) _ (c .saturating-add .ensures)))
 
 cast-operand-of : tie.Need-cast-operand-of Inv-loop μ-loop
 cast-operand-of c = search needs
@@ -66,13 +66,13 @@ loop-again c =
     let u = before (l .k) ++ operandText names (a .f .frame) (a .f .params) (operandOf (a .instr) (l .k)) in (
       omega (arith, c .before .before .before .before .before .before .before .before .before .before .loop-test .taken),
       l .inv .1,
-      written-more u (operandsBy names (a .f .frame) (a .f .params) (a .instr) (l .k + 1) (n - (l .k + 1))) (omega (arith, s .good))
+      up-to-more u (operandsBy names (a .f .frame) (a .f .params) (a .instr) (l .k + 1) (n - (l .k + 1))) (omega (arith, s .good))
           (operands-next names (a .f .frame) (a .f .params) (a .instr) n (l .k) (c .before .before .before .before .before .before .before .before .before .before .loop-test .taken)) (l .inv .2)
-          (then (omega (arith, s .good, written-kept (l .inv .2))) (c .before .before .before .before .before .before .before .put-before .ensures) r),
+          (then (omega (arith, s .good, up-to-kept (l .inv .2))) (c .before .before .before .before .before .before .before .put-before .ensures) r),
     )
 
 same-length : tie.Need-same-length Inv-loop μ-loop
-same-length c = written-kept (c .before .loop .inv .2)
+same-length c = up-to-kept (c .before .loop .inv .2)
 
 returns : tie.Need-returns Inv-loop μ-loop
 returns c =
@@ -80,7 +80,7 @@ returns c =
     let l = c .before .loop in
     let n = c .before .before .before .min .result in
     let names = namesOf (now (a .types)) (now (a .runtime)) (now (a .intrinsic)) in
-    rw (← l .inv .1) (written-all (operands-end names (a .f .frame) (a .f .params) (a .instr) n (l .k) (c .loop-test .left)) (l .inv .2))
+    rw (← l .inv .1) (up-to-all (operands-end names (a .f .frame) (a .f .params) (a .instr) n (l .k) (c .loop-test .left)) (l .inv .2))
 
 pub put-operands-spec : {M : Type 1} → statement M
 put-operands-spec =
