@@ -30,7 +30,7 @@ pub fn decode(opcodes: &[u8], types: &[u8], layout: &[u8], code: &[u8], start: u
             outcome: Outcome::Refused(refusal),
             instr: decoder::blank_instr(),
         },
-        Check::Ok => decode_with(opcodes, types, layout, code, start),
+        Check::Ok => decode_unchecked(opcodes, types, layout, code, start),
     }
 }
 
@@ -188,7 +188,7 @@ fn put_raw(out: &mut [u8], at: usize, types: &[u8], ty: u8, value: u64) -> usize
 }
 
 // The instruction at place start, by the prefix opcodes and the layout's reg_file_start.
-pub fn decode_with(
+pub fn decode_unchecked(
     opcodes: &[u8],
     types: &[u8],
     layout: &[u8],

@@ -57,11 +57,11 @@ returns-2 c = checked-end _ _ _ _ (c .before .before .before .before .before .lo
 enum-told-2 : tie.Need-enum-told-2 Inv-loop μ-loop
 enum-told-2 c = search needs
 
-flow-at-requires : tie.Need-flow-at-requires Inv-loop μ-loop
-flow-at-requires c κs = search needs
+flow-in-requires : tie.Need-flow-in-requires Inv-loop μ-loop
+flow-in-requires c κs = search needs
 
-jump-table-requires : tie.Need-jump-table-requires Inv-loop μ-loop
-jump-table-requires c κs = search needs
+jump-table-unchecked-requires : tie.Need-jump-table-unchecked-requires Inv-loop μ-loop
+jump-table-unchecked-requires c κs = search needs
 
 table-check-requires : tie.Need-table-check-requires Inv-loop μ-loop
 table-check-requires c κs = search needs
@@ -86,8 +86,8 @@ progress c =
     (ap (λ (y : Decoded). y .outcome) (sym e) ∙ c .enum-told2 .given .1))
 
 -- the flow of its opcode
-flow-is : (c : tie.After-flow-at Inv-loop μ-loop) → c .flow-at .result ≡ flowOf (now (c .before .before .before .before .before .before .before .before .before .before .before .before .before .args .opcodes)) (c .before .before .before .before .decode-at .result .instr .opcode)
-flow-is c = c .flow-at .ensures (now (c .before .before .before .before .before .before .before .before .before .before .before .before .before .args .opcodes)) (c .before .before .before .before .before .before .before .before .before .before .before .before .before .pre)
+flow-is : (c : tie.After-flow-in Inv-loop μ-loop) → c .flow-in .result ≡ flowOf (now (c .before .before .before .before .before .before .before .before .before .before .before .before .before .args .opcodes)) (c .before .before .before .before .decode-at .result .instr .opcode)
+flow-is c = c .flow-in .ensures (now (c .before .before .before .before .before .before .before .before .before .before .before .before .before .args .opcodes)) (c .before .before .before .before .before .before .before .before .before .before .before .before .before .pre)
 
 loop-less : tie.Need-loop-less Inv-loop μ-loop
 loop-less c = let q = progress (c .before .before .before .before .before .before) in omega (arith, q .0, q .1)
@@ -99,10 +99,10 @@ loop-again c =
     let x = c .before .before .before .before .before .before .before .before .before .decode-at .result in
     let q = progress (c .before .before .before .before .before .before) in
     let f = flow-is (c .before .before .before .before .before) in
-    let t = c .before .before .before .before .jump-table .ensures ∙ ap (λ (z : Flow). jumpTable (found (a .f .pool)) z (x .instr)) f in
+    let t = c .before .before .before .before .jump-table-unchecked .ensures ∙ ap (λ (z : Flow). jumpTable (found (a .f .pool)) z (x .instr)) f in
     let k = c .before .before .first-refusal .ensures ∙ ap (firstRefusal (l .check)) (c .before .before .before .table-check .ensures ∙ ap (λ (z : Table). tableCheck z (x .instr .offset)) t) in
     let m = c .saturating-add .ensures ∙ ap (λ (n : ℕ). place (l .p + n)) (c .before .line-room .ensures
-    ∙ ap (λ (z : Flow). place (lineRoom z (x .instr) (c .before .before .before .before .jump-table .result))) f
+    ∙ ap (λ (z : Flow). place (lineRoom z (x .instr) (c .before .before .before .before .jump-table-unchecked .result))) f
     ∙ ap (λ (z : Table). place (lineRoom (flowOf (now (a .opcodes)) (x .instr .opcode)) (x .instr) z)) t) in
     checked-done _ _ _ _ (l .inv) x (decoded-is (c .before .before .before .before .before .before .before .before .before)) (c .before .before .first-refusal .result) (c .before .before .before .before .before .before .enum-told2 .given .1) (q .0) (q .1) k m
 
@@ -126,8 +126,8 @@ check-lines-spec =
     enum-told
     returns-2
     enum-told-2
-    flow-at-requires
-    jump-table-requires
+    flow-in-requires
+    jump-table-unchecked-requires
     table-check-requires
     first-refusal-requires
     line-room-requires

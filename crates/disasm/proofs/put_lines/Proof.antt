@@ -64,8 +64,8 @@ returns-2 c = end-at _ _ _ (c .before .before .before .before .before .loop .inv
 enum-told-3 : tie.Need-enum-told-3 Inv-loop μ-loop
 enum-told-3 c = search needs
 
-flow-at-requires : tie.Need-flow-at-requires Inv-loop μ-loop
-flow-at-requires c κs = search needs
+flow-in-requires : tie.Need-flow-in-requires Inv-loop μ-loop
+flow-in-requires c κs = search needs
 
 min-requires : tie.Need-min-requires Inv-loop μ-loop
 min-requires c κs = search needs
@@ -96,8 +96,8 @@ progress c =
     (ap (λ (y : Decoded). y .outcome) (sym e) ∙ c .enum-told3 .given .1))
 
 -- the flow of its opcode
-flow-is : (c : tie.After-flow-at Inv-loop μ-loop) → c .flow-at .result ≡ flowOf (now (c .before .before .before .before .before .before .before .before .before .before .before .before .before .before .before .before .before .before .before .args .opcodes)) (c .before .before .before .before .decode-at .result .instr .opcode)
-flow-is c = c .flow-at .ensures (now (c .before .before .before .before .before .before .before .before .before .before .before .before .before .before .before .before .before .before .before .args .opcodes)) (c .before .before .before .before .before .before .before .before .before .before .before .before .before .before .before .before .before .before .before .pre .0)
+flow-is : (c : tie.After-flow-in Inv-loop μ-loop) → c .flow-in .result ≡ flowOf (now (c .before .before .before .before .before .before .before .before .before .before .before .before .before .before .before .before .before .before .before .args .opcodes)) (c .before .before .before .before .decode-at .result .instr .opcode)
+flow-is c = c .flow-in .ensures (now (c .before .before .before .before .before .before .before .before .before .before .before .before .before .before .before .before .before .before .before .args .opcodes)) (c .before .before .before .before .before .before .before .before .before .before .before .before .before .before .before .before .before .before .before .pre .0)
 
 loop-less : tie.Need-loop-less Inv-loop μ-loop
 loop-less c = let q = progress (c .before .before .before .before .before .before .before) in omega (arith, q .0, q .1)
@@ -136,7 +136,7 @@ put-lines-spec =
     same-length-2
     returns-2
     enum-told-3
-    flow-at-requires
+    flow-in-requires
     min-requires
     sub-put-line
     part-put-line-start

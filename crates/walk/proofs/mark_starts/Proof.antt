@@ -67,11 +67,11 @@ returns-2 c = end-at _ _ _ _ (c .before .before .before .before .before .before 
 enum-told-2 : tie.Need-enum-told-2 Inv-loop μ-loop
 enum-told-2 c = search needs
 
-flow-at-requires : tie.Need-flow-at-requires Inv-loop μ-loop
-flow-at-requires c κs = search needs
+flow-in-requires : tie.Need-flow-in-requires Inv-loop μ-loop
+flow-in-requires c κs = search needs
 
-jump-table-requires : tie.Need-jump-table-requires Inv-loop μ-loop
-jump-table-requires c κs = search needs
+jump-table-unchecked-requires : tie.Need-jump-table-unchecked-requires Inv-loop μ-loop
+jump-table-unchecked-requires c κs = search needs
 
 table-check-requires : tie.Need-table-check-requires Inv-loop μ-loop
 table-check-requires c κs = search needs
@@ -93,8 +93,8 @@ progress c =
     subst (Own (length (now (a .code))) i) (sym e) (q .0, q .1, own-offset (now (a .code)) (opcodesOf (now (a .opcodes))) (now (a .types)) (a .f .frame .«reg_file_start») i done)
 
 -- the flow of its opcode
-flow-is : (c : tie.After-flow-at Inv-loop μ-loop) → c .flow-at .result ≡ flowOf (now (c .before .before .before .before .before .before .before .before .before .before .before .before .before .before .args .opcodes)) (c .before .before .before .before .decode-at .result .instr .opcode)
-flow-is c = c .flow-at .ensures (now (c .before .before .before .before .before .before .before .before .before .before .before .before .before .before .args .opcodes)) (c .before .before .before .before .before .before .before .before .before .before .before .before .before .before .pre .0 .numbers)
+flow-is : (c : tie.After-flow-in Inv-loop μ-loop) → c .flow-in .result ≡ flowOf (now (c .before .before .before .before .before .before .before .before .before .before .before .before .before .before .args .opcodes)) (c .before .before .before .before .decode-at .result .instr .opcode)
+flow-is c = c .flow-in .ensures (now (c .before .before .before .before .before .before .before .before .before .before .before .before .before .before .args .opcodes)) (c .before .before .before .before .before .before .before .before .before .before .before .before .before .before .pre .0 .numbers)
 
 slice-write-starts : tie.Need-slice-write-starts Inv-loop μ-loop
 slice-write-starts c = omega (arith, c .before .before .before .before .before .before .before .before .before .before .loop .inv .kept, c .before .before .before .before .before .before .before .before .before .loop-test .taken)
@@ -108,7 +108,7 @@ loop-again c =
     let l = c .before .before .before .before .before .before .before .before .before .before .loop in
     let x = c .before .before .before .before .before .before .before .decode-at .result in
     let q = progress (c .before .before .before .before) in
-    let t = c .before .before .jump-table .ensures ∙ ap (λ (z : Flow). jumpTable (found (a .f .pool)) z (x .instr)) (flow-is (c .before .before .before)) in
+    let t = c .before .before .jump-table-unchecked .ensures ∙ ap (λ (z : Flow). jumpTable (found (a .f .pool)) z (x .instr)) (flow-is (c .before .before .before)) in
     let k = c .first-refusal .ensures ∙ ap (firstRefusal (l .check)) (c .before .table-check .ensures ∙ ap (λ (z : Table). tableCheck z (x .instr .offset)) t) in
     done-at _ _ _ _ (l .inv) x (is (c .before .before .before .before .before .before .before)) (c .first-refusal .result) (c .before .before .before .before .enum-told2 .given .1) (q .0) (q .1) (q .2) k
 
@@ -137,8 +137,8 @@ mark-starts-spec =
     same-length-2
     returns-2
     enum-told-2
-    flow-at-requires
-    jump-table-requires
+    flow-in-requires
+    jump-table-unchecked-requires
     table-check-requires
     first-refusal-requires
     slice-write-starts
