@@ -69,7 +69,7 @@ unfolding listView
 headed f (header-answer.Refused r) p el = refuses r (λ o. refl)
 headed f (header-answer.At h) p el =
     let v = viewBy f h p el in
-    let l = listed (v .code) (f .opcodes) (f .types) (v .frame .«reg_file_start») in
+    let l = listed (v .code) (v .opcodes) (f .types) (v .frame .«reg_file_start») in
     let t = headerText h ++ linesText v (l .instrs) in
     checked (listingCheck (v .opcodes) (v .pooled) l) (putText t) (puts t (λ o. refl))
 
