@@ -4,7 +4,7 @@ use Rattle.steps.proofs.entry_step.Statement.{statement}
 use Rattle.steps.proofs.entry_step.Tie as tie
 use Rattle.steps.proofs.entry_step.Reads as reads
 use Rattle.steps.proofs.entry_step.Lts as lts
-use Rattle.targets.proofs.entry_at.Reads as entry-at-reads
+use Rattle.targets.proofs.jump_entry_unchecked.Reads as jump-entry-unchecked-reads
 
 -- src/lib.rt:152:11
 jump-entry-unchecked-requires : tie.Need-jump-entry-unchecked-requires

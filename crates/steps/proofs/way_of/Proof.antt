@@ -6,8 +6,8 @@ use Rattle.steps.proofs.way_of.Tie as tie
 use Rattle.steps.proofs.way_of.Reads as reads
 use Rattle.steps.proofs.way_of.Lts as lts
 use Rattle.targets.proofs.here.Reads as here-reads
-use Rattle.targets.proofs.jump_table.Reads as jump-table-reads
-use Rattle.targets.proofs.jump_target.Reads as jump-target-reads
+use Rattle.targets.proofs.jump_table_unchecked.Reads as jump-table-unchecked-reads
+use Rattle.targets.proofs.jump_target_unchecked.Reads as jump-target-unchecked-reads
 
 -- src/lib.rt:47:9
 jump-target-unchecked-requires : tie.Need-jump-target-unchecked-requires

@@ -81,8 +81,8 @@ returns-5 c = let s = c .before .before .before .before .before .before .before 
     let e : number.Nothing ≡ smiOf (elems s (c .before .before .before .op .given .0 .0)) = rw (c .enum-told2 .given .1) in
     no-distance (elems s) (s .args .flow) (s .args .instr) (o .result) (o .ensures) (e ∙ of-pool (elems s) (s .args .flow .pool) (o .result) (index.Is (c .before .before .before .op .given .0 .0)) (not-false _ (c .before .before .before .before .before .if2 .left)) (rw (c .before .before .before .op .given .1)))
 
-cast-elem-at : tie.Need-cast-elem-at
-cast-elem-at c = search needs
+cast-array-elem-unchecked : tie.Need-cast-array-elem-unchecked
+cast-array-elem-unchecked c = search needs
 
 array-elem-unchecked-requires : tie.Need-array-elem-unchecked-requires
 array-elem-unchecked-requires c κs = search needs
@@ -130,7 +130,7 @@ jump-target-unchecked-spec =
     enum-known-pool
     enum-told-2
     returns-5
-    cast-elem-at
+    cast-array-elem-unchecked
     array-elem-unchecked-requires
     enum-known-d-2
     returns-6
