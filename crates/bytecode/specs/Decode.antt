@@ -12,7 +12,7 @@ use Rattle.flow.specs.Opcodes.{opcodesOf}
 use Rattle.decoder.specs.declared.Outcome.{Outcome}
 use Rattle.decoder.specs.declared.Decoded.{Decoded}
 use Rattle.decoder.specs.Head.{blank}
-use Rattle.decoder.specs.Listed.{decodesBy}
+use Rattle.decoder.specs.Listed.{decodes}
 
 -- row 10: "lent code above 65,536 bytes"
 abbrev pub checkCode : List ℕ → Check
@@ -26,4 +26,4 @@ refusedBy r = record { outcome = Outcome.Refused r; instr = blank }
 unfoldable pub decodeOne : List ℕ → List ℕ → List ℕ → List ℕ → ℕ → Decoded
 decodeOne ops types layout code start =
     guarded (firstRefusal (checkTable ops types [] [] layout) (checkCode code)) refusedBy
-    (decodesBy code (opcodesOf ops) types (signedValue layout 13) start)
+    (decodes code (opcodesOf ops) types (signedValue layout 13) start)

@@ -13,8 +13,8 @@ ghost use Rattle.text.specs.Texts.{decimal, signedDecimal};
 ghost use Rattle.tables.specs.Texts.{typeName, runtimeName, intrinsicName};
 ghost use Rattle.tables.specs.Layout.{signedValue};
 ghost use Rattle.flow.specs.Opcodes.{opcodesOf};
-ghost use Rattle.decoder.specs.Listed.{decodesBy};
-ghost use Rattle.bytecode.specs.Texts.{parameterIndex, paramName, regName, listName, operandText, nameBy};
+ghost use Rattle.decoder.specs.Listed.{decodes};
+ghost use Rattle.bytecode.specs.Texts.{parameterIndex, paramName, regName, listName, operandText, instrName};
 ghost use Rattle.bytecode.specs.Decode.{checkCode, decodeOne};
 ghost use Rattle.bytecode.specs.Numbers.{decodedNumbers};
 
@@ -30,7 +30,7 @@ pub fn decode(opcodes: &[u8], types: &[u8], layout: &[u8], code: &[u8], start: u
             outcome: Outcome::Refused(refusal),
             instr: decoder::blank_instr(),
         },
-        Check::Ok => decode_with(opcodes, types, layout, code, start),
+        Check::Ok => decode_unchecked(opcodes, types, layout, code, start),
     }
 }
 
@@ -86,7 +86,7 @@ pub fn render_operand(
 
 // An instruction's name, with its prefix.
 pub fn instr_name(out: &mut [u8], at: usize, opcodes: &[u8], opcode: u8, scale: u8) -> usize
-    ensures { λ r. ⌜ Put (now (out .entry)) at (nameBy (opcodesOf (now (opcodes .entry))) opcode scale) (now (out .exit)) r ⌝ }
+    ensures { λ r. ⌜ Put (now (out .entry)) at (instrName (opcodesOf (now (opcodes .entry))) opcode scale) (now (out .exit)) r ⌝ }
 {
     let p = text::put_bytes(out, at, tables::op_name(opcodes, opcode));
     if scale == 1 {
@@ -188,14 +188,14 @@ fn put_raw(out: &mut [u8], at: usize, types: &[u8], ty: u8, value: u64) -> usize
 }
 
 // The instruction at place start, by the prefix opcodes and the layout's reg_file_start.
-pub fn decode_with(
+pub fn decode_unchecked(
     opcodes: &[u8],
     types: &[u8],
     layout: &[u8],
     code: &[u8],
     start: usize,
 ) -> Decoded
-    ensures { λ r. ⌜ r ≡ decodesBy (now (code .entry)) (opcodesOf (now (opcodes .entry))) (now (types .entry))
+    ensures { λ r. ⌜ r ≡ decodes (now (code .entry)) (opcodesOf (now (opcodes .entry))) (now (types .entry))
         (signedValue (now (layout .entry)) 13) start ⌝ }
 {
     let prefixes = tables::prefix_ops(opcodes);

@@ -12,10 +12,10 @@ use Rattle.tables.specs.Texts.{runtimeName}
 use Rattle.tables.specs.Check.{wholeRecords, checkTable}
 use Rattle.operand.specs.Operand.{kinds, kindOf, ofKind, interpret, isList}
 use Rattle.decoder.specs.Head.{headAt}
-use Rattle.decoder.specs.Decode.{partsFrom, readParts, decodeBy}
+use Rattle.decoder.specs.Decode.{partsFrom, readParts, decodeAt}
 use Rattle.decoder.specs.Listed.{listFrom}
 use Rattle.bytecode.specs.Decode.{decodeOne}
-use Rattle.bytecode.specs.Texts.{paramName, regName, listName, operandText, nameBy}
+use Rattle.bytecode.specs.Texts.{paramName, regName, listName, operandText, instrName}
 use Rattle.flow.specs.Flow.{flowNames, flows, flowNumber, flowBy}
 use Rattle.targets.specs.Targets.{poolElem, operandOf, indexOf, numberOf, distanceBy, jumpTarget, jumpTable, tableBy, sizedBy}
 use Rattle.lines.specs.Line.{operandsBy, lineBy}
@@ -30,8 +30,8 @@ use Rattle.cases.specs.Rows.{told, asked, rows}
 -- P1 to P12
 pub cases : map told asked ≡ rows
 unfolding told asked rows opcodes opcode typed types padded four fours layout checkTable wholeRecords within firstFrom nameOk opcodeOk sizeFits sizeGood nameFits isNamed
-    typeNames ranges rangeOf layoutOf decodeOne decodeBy headAt firstMarked readParts partsFrom width isList kinds kindOf ofKind interpret leAt modulo wrap32
-    signed lineBy operandsBy hexByte hexDigit flatMap nameAt decimal lastDigits runtimeName paramName regName listName operandText nameBy targetCall targetOf
+    typeNames ranges rangeOf layoutOf decodeOne decodeAt headAt firstMarked readParts partsFrom width isList kinds kindOf ofKind interpret leAt modulo wrap32
+    signed lineBy operandsBy hexByte hexDigit flatMap nameAt decimal lastDigits runtimeName paramName regName listName operandText instrName targetCall targetOf
     flowNames flows flowNumber flowBy poolElem operandOf indexOf numberOf distanceBy jumpTarget jumpTable tableBy sizedBy walkLent walkSource listFrom
     switchCheck walkGraph stepsAt instrSteps entriesSteps finding firstExit level after exits isStart markList marked reached bits
 cases = refl

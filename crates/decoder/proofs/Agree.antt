@@ -28,7 +28,7 @@ use Rattle.decoder.specs.declared.Head.{Head}
 use Rattle.decoder.specs.declared.Decoded.{Decoded}
 use Rattle.decoder.specs.mirror.Steps.{startOps, afterStep, stepOps, runOps, operandsAt, ofOps, ofHead, stepsAt}
 use Rattle.decoder.specs.Head.{blank, headAt}
-use Rattle.decoder.specs.Decode.{codesFrom, operandTypes, Part, own, count, partsFrom, partWidth, offsetOf, operandAtPart, operandsFrom, isShort, shortNumber, recordOf, recordsOf, instrOf, refusedAt, readParts, decodeHead, decodeBy}
+use Rattle.decoder.specs.Decode.{codesFrom, operandTypes, Part, own, count, partsFrom, partWidth, offsetOf, operandAtPart, operandsFrom, isShort, shortNumber, recordOf, recordsOf, instrOf, refusedAt, readParts, decodeHead, decodeAt}
 
 -- ---- lists of operands and their records
 more-records : (n : ℕ) (os : List Operand) (o : Operand) → length os < n → set (recordsOf n os) (length os) (recordOf o) ≡ recordsOf n (os ++ (o ∷ []))
@@ -286,8 +286,8 @@ opened code ops types start rfs opcode scale at =
 
 -- the code's steps are V8's and 01's decoding
 pub decoded : (code : List ℕ) (ops : Opcodes) (types : List ℕ) (start : ℕ) (rfs : ℤ) (wide extra : ℕ)
-    → stepsAt code ops types start rfs wide extra ≡ decodeBy code ops types start rfs wide extra
-unfolding decodeBy
+    → stepsAt code ops types start rfs wide extra ≡ decodeAt code ops types start rfs wide extra
+unfolding decodeAt
 decoded code ops types start rfs wide extra = go (headAt code (ops .many) start wide extra)
   where
     go : (h : Head) → ofHead h code ops types start rfs ≡ decodeHead h code ops types start rfs

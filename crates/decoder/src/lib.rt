@@ -3,7 +3,7 @@ ghost use mathlib.Core.Path.{_≡_};
 ghost use Prim.Native.Nat.{_<_};
 ghost use lib.ListN.{length};
 ghost use Rattle.flow.specs.Opcodes.{opcodesOf};
-ghost use Rattle.decoder.specs.Decode.{decodeBy};
+ghost use Rattle.decoder.specs.Decode.{decodeAt};
 ghost use Rattle.decoder.specs.mirror.Steps.{operandsAt, ofOps, stepsAt};
 ghost use Rattle.decoder.specs.Head.{blank, opAt, behind, headAt};
 use operand::Operand;
@@ -64,7 +64,7 @@ pub fn decode_at(
     wide: usize,
     extra: usize,
 ) -> Decoded
-    ensures { λ r. ⌜ r ≡ decodeBy (now (code .entry)) (opcodesOf (now (opcodes .entry))) (now (types .entry)) start «reg_file_start» wide extra ⌝ }
+    ensures { λ r. ⌜ r ≡ decodeAt (now (code .entry)) (opcodesOf (now (opcodes .entry))) (now (types .entry)) start «reg_file_start» wide extra ⌝ }
 {
     decode_steps(code, opcodes, types, start, reg_file_start, wide, extra)
 }

@@ -11,14 +11,14 @@ use Rattle.refusal.specs.Check.{firstRefusal}
 use Rattle.text.specs.Put.{place}
 use Rattle.decoder.specs.declared.Outcome.{Outcome}
 use Rattle.decoder.specs.declared.Decoded.{Decoded}
-use Rattle.flow.specs.Flow.{flowOf}
+use Rattle.flow.specs.Opcodes.{Opcodes}
 use Rattle.targets.specs.Targets.{jumpTable}
-use Rattle.lines.specs.Room.{lineRoom}
+use Rattle.lines.specs.mirror.Room.{lineRoom}
 use Rattle.disasm.specs.mirror.Lines.{headerRoom, linesRoom, Checked}
 use Rattle.function.specs.Code.{tableCheck}
 use Rattle.function.proofs.Passing.{allOf, restOf, Going, going-start, going-refused, going-end, going-instrs, going-done}
 
-module _ (ops : List ℕ) (pooled : Bool) (d : ℕ → Decoded) (len : ℕ) where
+module _ (ops : Opcodes) (pooled : Bool) (d : ℕ → Decoded) (len : ℕ) where
   -- of the room for all lines and the header, done is counted
   pub record RoomInv (p : ℕ) (check : Check) (i : ℕ) : Type 0 where
     pub going : Going ops pooled d len check i
@@ -44,15 +44,15 @@ module _ (ops : List ℕ) (pooled : Bool) (d : ℕ → Decoded) (len : ℕ) wher
         record { checked = g .0; room = λ ok. omega (arith, s .is, s .whole, w) }
 
     room-done : (c′ : Check) {p′ : ℕ} → d i .outcome ≡ Outcome.Done → i < d i .instr .end → d i .instr .end ≤ len
-        → c′ ≡ firstRefusal check (tableCheck (jumpTable pooled (flowOf ops (d i .instr .opcode)) (d i .instr)) (d i .instr .offset))
-        → p′ ≡ place (p + place (lineRoom (flowOf ops (d i .instr .opcode)) (d i .instr) (jumpTable pooled (flowOf ops (d i .instr .opcode)) (d i .instr)))) → RoomInv p′ c′ (d i .instr .end)
+        → c′ ≡ firstRefusal check (tableCheck (jumpTable pooled (ops .flow (d i .instr .opcode)) (d i .instr)) (d i .instr .offset))
+        → p′ ≡ place (p + place (lineRoom (ops .flow (d i .instr .opcode)) (d i .instr) (jumpTable pooled (ops .flow (d i .instr .opcode)) (d i .instr)))) → RoomInv p′ c′ (d i .instr .end)
     unfolding linesRoom going-done
     room-done c′ e low high is more =
         let g = s .going in
         let w = ap (linesRoom ops pooled) (going-instrs ops pooled d len g e) in
         record {
           going = going-done ops pooled d len g c′ e low high is;
-          done = s .done + lineRoom (flowOf ops (d i .instr .opcode)) (d i .instr) (jumpTable pooled (flowOf ops (d i .instr .opcode)) (d i .instr));
+          done = s .done + lineRoom (ops .flow (d i .instr .opcode)) (d i .instr) (jumpTable pooled (ops .flow (d i .instr .opcode)) (d i .instr));
           is = omega (arith, s .is, more);
           whole = omega (arith, s .whole, w);
         }
@@ -66,9 +66,9 @@ module _ (ops : List ℕ) (pooled : Bool) (d : ℕ → Decoded) (len : ℕ) wher
       checked-end e = room-end (ap (λ (y : Decoded). y .outcome) (sym is) ∙ e)
 
       pub checked-done : (c′ : Check) {p′ : ℕ} → x .outcome ≡ Outcome.Done → i < x .instr .end → x .instr .end ≤ len
-          → c′ ≡ firstRefusal check (tableCheck (jumpTable pooled (flowOf ops (x .instr .opcode)) (x .instr)) (x .instr .offset))
-          → p′ ≡ place (p + place (lineRoom (flowOf ops (x .instr .opcode)) (x .instr) (jumpTable pooled (flowOf ops (x .instr .opcode)) (x .instr)))) → RoomInv p′ c′ (x .instr .end)
+          → c′ ≡ firstRefusal check (tableCheck (jumpTable pooled (ops .flow (x .instr .opcode)) (x .instr)) (x .instr .offset))
+          → p′ ≡ place (p + place (lineRoom (ops .flow (x .instr .opcode)) (x .instr) (jumpTable pooled (ops .flow (x .instr .opcode)) (x .instr)))) → RoomInv p′ c′ (x .instr .end)
       checked-done c′ {p′} =
           subst (λ (y : Decoded). y .outcome ≡ Outcome.Done → i < y .instr .end → y .instr .end ≤ len
-          → c′ ≡ firstRefusal check (tableCheck (jumpTable pooled (flowOf ops (y .instr .opcode)) (y .instr)) (y .instr .offset))
-          → p′ ≡ place (p + place (lineRoom (flowOf ops (y .instr .opcode)) (y .instr) (jumpTable pooled (flowOf ops (y .instr .opcode)) (y .instr)))) → RoomInv p′ c′ (y .instr .end)) (sym is) (room-done c′)
+          → c′ ≡ firstRefusal check (tableCheck (jumpTable pooled (ops .flow (y .instr .opcode)) (y .instr)) (y .instr .offset))
+          → p′ ≡ place (p + place (lineRoom (ops .flow (y .instr .opcode)) (y .instr) (jumpTable pooled (ops .flow (y .instr .opcode)) (y .instr)))) → RoomInv p′ c′ (y .instr .end)) (sym is) (room-done c′)

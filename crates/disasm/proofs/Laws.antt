@@ -17,9 +17,9 @@ use Rattle.text.proofs.Texts.{digits-few}
 use Rattle.header.specs.declared.Header.{Header}
 use Rattle.decoder.specs.declared.Instr.{Instr}
 use Rattle.decoder.specs.Listed.{Listing}
-use Rattle.flow.specs.Flow.{flowOf}
+use Rattle.flow.specs.Opcodes.{Opcodes}
 use Rattle.lines.specs.Line.{View}
-use Rattle.lines.proofs.Room.{signed-room, line-room}
+use Rattle.lines.proofs.Room.{NamesFit, signed-room, line-room}
 use Rattle.disasm.specs.declared.Pass.{Pass}
 use Rattle.function.specs.Code.{codeCheck}
 use Rattle.disasm.specs.Listing.{headerText, linesText, listingText, listView}
@@ -28,10 +28,10 @@ use Rattle.text.specs.declared.Written.the-variants as written
 
 -- ---- room
 
-pub lines-room : (v : View) (is : List Instr) → length (linesText v is) ≤ linesRoom (v .opcodes) (v .pooled) is
+lines-room : (v : View) → NamesFit (v .opcodes) → (is : List Instr) → length (linesText v is) ≤ linesRoom (v .opcodes) (v .pooled) is
 unfolding linesText linesRoom
-lines-room v [] = omega arith
-lines-room v (i ∷ is) = rw length-append (omega (arith, line-room v (flowOf (v .opcodes) (i .opcode)) i, lines-room v is))
+lines-room v short [] = omega arith
+lines-room v short (i ∷ is) = rw length-append (omega (arith, line-room v short (v .opcodes .flow (i .opcode)) i, lines-room v short is))
 
 header-room : (h : Header) → length (headerText h) ≤ headerRoom
 unfolding headerText
@@ -42,7 +42,7 @@ header-room h =
 
 -- ---- the first pass
 -- where it found nothing, decoding came to the code's end
-pub check-fine : {ops : List ℕ} {pooled : Bool} (l : Listing) {m : Pass} → Checked ops pooled l m → m .check ≡ Ok → codeCheck (l .outcome) ≡ Ok
+pub check-fine : {ops : Opcodes} {pooled : Bool} (l : Listing) {m : Pass} → Checked ops pooled l m → m .check ≡ Ok → codeCheck (l .outcome) ≡ Ok
 check-fine l c ok = or-left (codeCheck (l .outcome)) _ (sym (c .checked) ∙ ok)
 
 module _ (v : View) (h : Header) (l : Listing) (o : List ℕ) {m : Pass} (c : Checked (v .opcodes) (v .pooled) l m) where
@@ -57,9 +57,9 @@ module _ (v : View) (h : Header) (l : Listing) (o : List ℕ) {m : Pass} (c : Ch
     check-written w = rw (sym (c .checked) ∙ ok) w
 
     -- a buffer with the room is long enough
-    pub check-fits : length o < 2 ^ 63 → m .room ≤ length o → {o′ : List ℕ} {r : ℕ} → Put o 0 (listingText v h l) o′ r
+    pub check-fits : NamesFit (v .opcodes) → length o < 2 ^ 63 → m .room ≤ length o → {o′ : List ℕ} {r : ℕ} → Put o 0 (listingText v h l) o′ r
         → WrittenBy (listView v h l o) (written.Done r) o′
-    check-fits small room p =
+    check-fits short small room p =
         let f : length (listingText v h l) ≤ length o =
-        rw length-append (omega (arith, c .room (check-fine l c ok), header-room h, lines-room v (l .instrs))) in
+        rw length-append (omega (arith, c .room (check-fine l c ok), header-room h, lines-room v short (l .instrs))) in
         check-written (written-whole (listingText v h l) o small f p)

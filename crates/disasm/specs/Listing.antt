@@ -17,6 +17,7 @@ use Rattle.header.specs.declared.HeaderAnswer.{HeaderAnswer}
 use Rattle.header.specs.declared.HeaderAnswer.the-variants as header-answer
 use Rattle.header.specs.Header.{headerOf}
 use Rattle.decoder.specs.declared.Instr.{Instr}
+use Rattle.flow.specs.Opcodes.{opcodesOf}
 use Rattle.decoder.specs.Listed.{Listing, listed}
 use Rattle.targets.specs.declared.Pool.{Pool}
 use Rattle.targets.specs.Targets.{poolElem, found}
@@ -41,7 +42,7 @@ linesText v (i ∷ is) = lineText v i ++ linesText v is
 abbrev pub viewBy : Files → Header → Pool → (ℕ → Elem) → View
 viewBy f h p el = record {
   code = take (h .«code_len») (drop (h .«code_at») (f .payload));
-  opcodes = f .opcodes;
+  opcodes = opcodesOf (f .opcodes);
   names = record { types = f .types; runtime = f .runtime; intrinsic = f .intrinsic };
   frame = layoutOf (f .layout) .frame;
   params = h .«parameter_count»;
@@ -59,7 +60,7 @@ listView v h l o = guardedOn (listingCheck (v .opcodes) (v .pooled) l) Refused o
 
 abbrev pub listHeader : Files → HeaderAnswer → Pool → (ℕ → Elem) → List ℕ → Written × List ℕ
 listHeader f (header-answer.Refused r) p el o = (Refused r, o)
-listHeader f (header-answer.At h) p el o = let v = viewBy f h p el in listView v h (listed (v .code) (f .opcodes) (f .types) (v .frame .«reg_file_start»)) o
+listHeader f (header-answer.At h) p el o = let v = viewBy f h p el in listView v h (listed (v .code) (v .opcodes) (f .types) (v .frame .«reg_file_start»)) o
 
 -- the listing of an object whose files are good
 abbrev pub listObject : Files → Object → List ℕ → Written × List ℕ

@@ -1,7 +1,6 @@
 // The listing of a function: its header counts and its instruction lines.
 
 use decoder::Outcome;
-use flow::Flow;
 use function::Function;
 use header::Header;
 use header::HeaderAnswer;
@@ -12,14 +11,13 @@ use tables::Layout;
 use targets::Pool;
 use text::Written;
 ghost use mathlib.Core.Path.{_≡_};
-ghost use mathlib.Core.List.{List};
-ghost use Prim.Native.Nat.{ℕ};
 ghost use Rattle.refusal.specs.declared.Check.the-variants.{Ok};
 ghost use Rattle.text.specs.Put.{Put};
 ghost use Rattle.text.specs.Written.{putText};
 ghost use Rattle.text.specs.Numbers.{WrittenAs};
 ghost use Rattle.text.specs.mirror.Written.{WrittenBy};
-ghost use Rattle.flow.specs.Flow.{flowOf, Numbered};
+ghost use Rattle.flow.specs.Flow.{Numbered};
+ghost use Rattle.flow.specs.Opcodes.{opcodesOf};
 ghost use Rattle.targets.specs.Targets.{found};
 ghost use Rattle.function.specs.Files.{filesOf};
 ghost use Rattle.function.specs.Code.{codeCheck};
@@ -102,7 +100,7 @@ fn list_object(
         (now (objects .entry)) (now (slots .entry)) (now (payload .entry))) object (now (out .entry))) r (now (out .exit)) ⌝ }
 {
     let shape = tables::layout_of(layout);
-    match header::header_of(slots, payload, object, shape) {
+    match header::header_at_unchecked(slots, payload, object, shape) {
         HeaderAnswer::Refused(refusal) => Written::Refused(refusal),
         HeaderAnswer::At(h) => {
             let pool = function::pool_of(objects, slots, shape, object);
@@ -359,7 +357,7 @@ fn put_lines(
             Outcome::Refused(_) => return p,
             Outcome::End => return p,
             Outcome::Done => {
-                let flow = flow_at(flows, instr.opcode);
+                let flow = flow::flow_in(flows, instr.opcode);
                 let q = text::min(p, out.len());
                 let w = lines::put_line(
                     &mut out[q..],
@@ -385,7 +383,8 @@ fn put_lines(
 // 11 to 16, and room for the header and all lines.
 fn check_lines(code: &[u8], opcodes: &[u8], types: &[u8], flows: &[u8], f: Function) -> Pass
     requires { ⌜ Numbered (now opcodes) (now flows) 256 ⌝ }
-    ensures { λ r. ⌜ Checked (now (opcodes .entry)) (found (f .pool)) (listedBy (now (code .entry)) (now (opcodes .entry)) (now (types .entry)) f) r ⌝ }
+    ensures { λ r. ⌜ Checked (opcodesOf (now (opcodes .entry))) (found (f .pool))
+        (listedBy (now (code .entry)) (now (opcodes .entry)) (now (types .entry)) f) r ⌝ }
 {
     let frame = f.frame;
     let rfs = frame.reg_file_start;
@@ -406,8 +405,8 @@ fn check_lines(code: &[u8], opcodes: &[u8], types: &[u8], flows: &[u8], f: Funct
             }
             Outcome::End => return Pass { check, room: p },
             Outcome::Done => {
-                let flow = flow_at(flows, instr.opcode);
-                let table = targets::jump_table(pool, flow, instr);
+                let flow = flow::flow_in(flows, instr.opcode);
+                let table = targets::jump_table_unchecked(pool, flow, instr);
                 check = refusal::first_refusal(check, function::table_check(table, instr.offset));
                 p = text::saturating_add(p, lines::line_room(flow, instr, table));
                 i = instr.end;
@@ -415,11 +414,4 @@ fn check_lines(code: &[u8], opcodes: &[u8], types: &[u8], flows: &[u8], f: Funct
         }
     }
     Pass { check, room: p }
-}
-
-// The flow of an opcode, by the numbers that were found once.
-fn flow_at(flows: &[u8], op: u8) -> Flow
-    ensures { λ r. ⌜ ((ops : List ℕ) → Numbered ops (now (flows .entry)) 256 → r ≡ flowOf ops op) ⌝ }
-{
-    flow::flow_in(flows, op)
 }

@@ -13,12 +13,12 @@ use Rattle.decoder.specs.declared.Instr.{Instr}
 use Rattle.decoder.specs.declared.Outcome.{Outcome}
 use Rattle.decoder.specs.declared.Decoded.{Decoded}
 use Rattle.decoder.proofs.Passing.{PassInv, pass-start, pass-refused, pass-end, pass-instrs, pass-done}
-use Rattle.flow.specs.Flow.{flowOf}
+use Rattle.flow.specs.Opcodes.{Opcodes}
 use Rattle.targets.specs.Targets.{jumpTable}
 use Rattle.function.specs.Code.{tableCheck, switchCheck, codeCheck, listingCheck}
 pub use Rattle.decoder.proofs.Passing.{allOf, restOf}
 
-module _ (ops : List ℕ) (pooled : Bool) (d : ℕ → Decoded) (len : ℕ) where
+module _ (ops : Opcodes) (pooled : Bool) (d : ℕ → Decoded) (len : ℕ) where
   -- some instructions are passed, up to place i of the code; check is the first fault of their switches
   pub record Going (check : Check) (i : ℕ) : Type 0 where
     pub passed : ℕ
@@ -46,11 +46,11 @@ module _ (ops : List ℕ) (pooled : Bool) (d : ℕ → Decoded) (len : ℕ) wher
     going-instrs e = pass-instrs d len (s .pass) e
 
     unfoldable pub going-done : (c′ : Check) → d i .outcome ≡ Outcome.Done → i < d i .instr .end → d i .instr .end ≤ len
-        → c′ ≡ firstRefusal check (tableCheck (jumpTable pooled (flowOf ops (d i .instr .opcode)) (d i .instr)) (d i .instr .offset))
+        → c′ ≡ firstRefusal check (tableCheck (jumpTable pooled (ops .flow (d i .instr .opcode)) (d i .instr)) (d i .instr .offset))
         → Going c′ (d i .instr .end)
     unfolding switchCheck
     going-done c′ e low high is =
-        let t = tableCheck (jumpTable pooled (flowOf ops (d i .instr .opcode)) (d i .instr)) (d i .instr .offset) in
+        let t = tableCheck (jumpTable pooled (ops .flow (d i .instr .opcode)) (d i .instr)) (d i .instr .offset) in
         let rest = restOf d len (suc (s .passed)) (d i .instr .end) .instrs in
         record {
           passed = suc (s .passed);

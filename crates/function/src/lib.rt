@@ -115,7 +115,7 @@ pub fn pool_of(objects: &[u8], slots: &[u8], shape: Layout, object: Object) -> P
     let slot = shape.pool_slot as u64;
     pool_by(
         objects,
-        serializer::find_slot(slots, object.first, object.count, slot),
+        serializer::slot_at_unchecked(slots, object.first, object.count, slot),
     )
 }
 

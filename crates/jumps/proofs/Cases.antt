@@ -19,7 +19,7 @@ use Rattle.tables.specs.Layout.{ranges, rangeOf, layoutOf}
 use Rattle.tables.specs.Check.{wholeRecords, checkTable}
 use Rattle.operand.specs.Operand.{kinds, kindOf, ofKind, interpret, isList}
 use Rattle.decoder.specs.Head.{headAt}
-use Rattle.decoder.specs.Decode.{partsFrom, readParts, decodeBy}
+use Rattle.decoder.specs.Decode.{partsFrom, readParts, decodeAt}
 use Rattle.sample.specs.Sample.{padded, opcode, typed, opcodes, types, four, fours, layout}
 use Rattle.flow.specs.Flow.{flowNames, flows, flowNumber, flowBy}
 use Rattle.targets.specs.Targets.{poolElem, operandOf, indexOf, numberOf, distanceBy, jumpTarget, jumpTable, tableBy, sizedBy, entryAt}
@@ -64,7 +64,7 @@ pub target-cases :
     ≡ (target-answer.At 18446744073709551613 ∷ target-answer.End ∷ target-answer.Refused (refusalAt 20 2) ∷ target-answer.Nothing ∷ target-answer.At 4
     ∷ target-answer.Refused (refusalAt 8 0) ∷ [])
 unfolding targetCall targetOf opcodes opcode typed types padded four fours layout checkTable wholeRecords within firstFrom nameOk opcodeOk sizeFits sizeGood nameFits isNamed typeNames
-    ranges rangeOf leAt checkStore sizesOk objectOk slotOk valueOk fieldsOk falls fallsIn objectOf slotOf layoutOf poolBy slotAt poolElem elemAt down smiBytes decodeBy headAt
+    ranges rangeOf leAt checkStore sizesOk objectOk slotOk valueOk fieldsOk falls fallsIn objectOf slotOf layoutOf poolBy slotAt poolElem elemAt down smiBytes decodeAt headAt
     firstMarked readParts partsFrom width isList kinds kindOf ofKind interpret modulo wrap32 signed nameAt flowNames flows flowNumber flowBy operandOf indexOf
     numberOf distanceBy jumpTarget
 target-cases = refl
@@ -79,7 +79,7 @@ pub table-cases :
     ∷ [])
     ≡ (table-answer.At (record { start = 0; count = 2; base = pos 5 }) ∷ table-answer.Nothing ∷ [])
 unfolding tableCall tableOf opcodes opcode typed types padded four fours layout checkTable wholeRecords within firstFrom nameOk opcodeOk sizeFits sizeGood nameFits isNamed typeNames
-    ranges rangeOf leAt checkStore sizesOk objectOk slotOk valueOk fieldsOk falls fallsIn objectOf slotOf layoutOf poolBy slotAt decodeBy headAt
+    ranges rangeOf leAt checkStore sizesOk objectOk slotOk valueOk fieldsOk falls fallsIn objectOf slotOf layoutOf poolBy slotAt decodeAt headAt
     firstMarked readParts partsFrom width isList kinds kindOf ofKind interpret modulo wrap32 signed nameAt flowNames flows flowNumber flowBy operandOf indexOf
     numberOf jumpTable tableBy sizedBy
 table-cases = refl
@@ -95,7 +95,7 @@ pub entry-cases :
     ∷ [])
     ≡ (entry-answer.Shown (pos 5) 4 ∷ entry-answer.Skipped ∷ entry-answer.Beyond ∷ entry-answer.Nothing ∷ entry-answer.Nothing ∷ entry-answer.End ∷ [])
 unfolding entryCall tableCall tableOf opcodes opcode typed types padded four fours layout checkTable wholeRecords within firstFrom nameOk opcodeOk sizeFits sizeGood nameFits isNamed typeNames
-    ranges rangeOf leAt checkStore sizesOk objectOk slotOk valueOk fieldsOk falls fallsIn objectOf slotOf layoutOf poolBy slotAt poolElem elemAt down smiBytes decodeBy headAt
+    ranges rangeOf leAt checkStore sizesOk objectOk slotOk valueOk fieldsOk falls fallsIn objectOf slotOf layoutOf poolBy slotAt poolElem elemAt down smiBytes decodeAt headAt
     firstMarked readParts partsFrom width isList kinds kindOf ofKind interpret modulo wrap32 signed nameAt flowNames flows flowNumber flowBy operandOf indexOf
     numberOf jumpTable tableBy sizedBy entryAt
 entry-cases = refl
@@ -109,13 +109,13 @@ twoSwitches = 0x00 ∷ 0x00 ∷ 0x01 ∷ 0x05 ∷ 0x00 ∷ 0x00 ∷ 0xff ∷ 0x0
 
 pub sixteen-case : tableCall (files signedSwitch) (object.Object 0) twoSwitches 4 ≡ table-answer.Refused (refusalAt 16 4)
 unfolding tableCall tableOf opcode typed types padded four fours layout checkTable wholeRecords within firstFrom nameOk opcodeOk sizeFits sizeGood nameFits isNamed typeNames
-    ranges rangeOf leAt checkStore sizesOk objectOk slotOk valueOk fieldsOk falls fallsIn objectOf slotOf layoutOf poolBy slotAt decodeBy headAt
+    ranges rangeOf leAt checkStore sizesOk objectOk slotOk valueOk fieldsOk falls fallsIn objectOf slotOf layoutOf poolBy slotAt decodeAt headAt
     firstMarked readParts partsFrom width isList kinds kindOf ofKind interpret modulo wrap32 signed nameAt flowNames flows flowNumber flowBy operandOf indexOf
     numberOf jumpTable tableBy sizedBy
 sixteen-case = refl
 
 pub sixteen-target : targetCall (files signedSwitch) (object.Object 0) twoSwitches 4 ≡ target-answer.Nothing
 unfolding targetCall targetOf opcode typed types padded four fours layout checkTable wholeRecords within firstFrom nameOk opcodeOk sizeFits sizeGood nameFits isNamed typeNames
-    ranges rangeOf leAt checkStore sizesOk objectOk slotOk valueOk fieldsOk falls fallsIn objectOf slotOf layoutOf poolBy slotAt decodeBy headAt
+    ranges rangeOf leAt checkStore sizesOk objectOk slotOk valueOk fieldsOk falls fallsIn objectOf slotOf layoutOf poolBy slotAt decodeAt headAt
     firstMarked readParts partsFrom width isList kinds kindOf ofKind interpret modulo wrap32 signed nameAt flowNames flows flowNumber flowBy jumpTarget
 sixteen-target = refl

@@ -10,6 +10,7 @@ use targets::Pool;
 use targets::Table;
 use targets::Target;
 ghost use mathlib.Core.Path.{_≡_};
+ghost use Rattle.flow.specs.Opcodes.{opcodesOf};
 ghost use Rattle.targets.specs.Targets.{found};
 ghost use Rattle.targets.specs.mirror.Search.{poolSearched};
 ghost use Rattle.function.specs.Files.{lentFiles};
@@ -73,7 +74,7 @@ pub fn jump_target(
         Check::Ok => {
             let shape = tables::layout_of(layout);
             let pool = function::lent_pool(objects, slots, shape, object);
-            let d = bytecode::decode_with(opcodes, types, layout, code, at);
+            let d = bytecode::decode_unchecked(opcodes, types, layout, code, at);
             target_of(opcodes, slots, payload, shape.tagged_size, pool, d)
         }
     }
@@ -109,7 +110,7 @@ pub fn jump_table(
         Check::Ok => {
             let shape = tables::layout_of(layout);
             let pool = function::lent_pool(objects, slots, shape, object);
-            let d = bytecode::decode_with(opcodes, types, layout, code, at);
+            let d = bytecode::decode_unchecked(opcodes, types, layout, code, at);
             table_of(opcodes, pool, d, at)
         }
     }
@@ -146,7 +147,7 @@ pub fn jump_entry(
         Check::Ok => {
             let shape = tables::layout_of(layout);
             let pool = function::lent_pool(objects, slots, shape, object);
-            let d = bytecode::decode_with(opcodes, types, layout, code, at);
+            let d = bytecode::decode_unchecked(opcodes, types, layout, code, at);
             let table = table_of(opcodes, pool, d, at);
             let instr = d.instr;
             let from = targets::here(instr);
@@ -164,7 +165,7 @@ fn target_of(
     pool: Pool,
     d: Decoded,
 ) -> TargetAnswer
-    ensures { λ r. ⌜ r ≡ targetOf (now (opcodes .entry)) (poolSearched (now (slots .entry)) (now (payload .entry)) ts pool) d ⌝ }
+    ensures { λ r. ⌜ r ≡ targetOf (opcodesOf (now (opcodes .entry))) (poolSearched (now (slots .entry)) (now (payload .entry)) ts pool) d ⌝ }
 {
     let outcome = d.outcome;
     let instr = d.instr;
@@ -173,14 +174,14 @@ fn target_of(
         Outcome::Refused(refusal) => TargetAnswer::Refused(refusal),
         Outcome::Done => {
             let flow = flow::flow_of(opcodes, instr.opcode);
-            target_told(targets::jump_target(slots, payload, ts, pool, flow, instr))
+            target_told(targets::jump_target_unchecked(slots, payload, ts, pool, flow, instr))
         }
     }
 }
 
 // The table of what was decoded at a place.
 fn table_of(opcodes: &[u8], pool: Pool, d: Decoded, at: usize) -> TableAnswer
-    ensures { λ r. ⌜ r ≡ tableOf (now (opcodes .entry)) (found pool) d at ⌝ }
+    ensures { λ r. ⌜ r ≡ tableOf (opcodesOf (now (opcodes .entry))) (found pool) d at ⌝ }
 {
     let outcome = d.outcome;
     let instr = d.instr;
@@ -189,7 +190,7 @@ fn table_of(opcodes: &[u8], pool: Pool, d: Decoded, at: usize) -> TableAnswer
         Outcome::Refused(refusal) => TableAnswer::Refused(refusal),
         Outcome::Done => {
             let flow = flow::flow_of(opcodes, instr.opcode);
-            table_told(targets::jump_table(pool, flow, instr), at)
+            table_told(targets::jump_table_unchecked(pool, flow, instr), at)
         }
     }
 }
@@ -226,7 +227,7 @@ fn entry_in(
     ensures { λ r. ⌜ r ≡ entryIn (poolSearched (now (slots .entry)) (now (payload .entry)) ts pool) from e k ⌝ }
 {
     if k < e.count as usize {
-        entry_told(targets::entry_at(slots, payload, ts, pool, from, e, k as u16))
+        entry_told(targets::jump_entry_unchecked(slots, payload, ts, pool, from, e, k as u16))
     } else {
         EntryAnswer::Beyond
     }

@@ -13,7 +13,7 @@ ghost use mathlib.Core.Bool.{cond, false};
 ghost use Rattle.laws.specs.Ascii.{ascii};
 ghost use Prim.Native.Nat.{_-_, min};
 ghost use Rattle.text.specs.Put.{Put, place};
-ghost use Rattle.lines.specs.Room.{entriesOf, targetRoom, lineRoom};
+ghost use Rattle.lines.specs.mirror.Room.{entriesOf, targetRoom, lineRoom};
 ghost use Rattle.lines.specs.Line.{before, operandsBy, placeText, targetText, entryText, shownAfter, entriesFrom, tableText, lineBy};
 ghost use Rattle.lines.specs.mirror.View.{namesOf, elemsOf, viewOf};
 
@@ -39,9 +39,9 @@ pub fn put_line(
     let p = put_place(out, code, instr);
     let p = bytecode::instr_name(out, p, opcodes, instr.opcode, instr.scale);
     let p = put_operands(out, p, types, runtime, intrinsic, f, instr);
-    let target = targets::jump_target(slots, payload, f.ts, pool, flow, instr);
+    let target = targets::jump_target_unchecked(slots, payload, f.ts, pool, flow, instr);
     let p = put_target(out, p, target);
-    let table = targets::jump_table(pool, flow, instr);
+    let table = targets::jump_table_unchecked(pool, flow, instr);
     let at = targets::here(instr);
     let p = put_table(out, p, slots, payload, f, at, table);
     text::put_byte(out, p, b'\n')
@@ -197,7 +197,7 @@ fn put_entries(
     let mut shown = false;
     let mut k: u16 = 0;
     while k < n {
-        let entry = targets::entry_at(slots, payload, f.ts, pool, here, e, k);
+        let entry = targets::jump_entry_unchecked(slots, payload, f.ts, pool, here, e, k);
         p = put_entry(out, p, shown, entry);
         shown = shown_after(shown, entry);
         k += 1;

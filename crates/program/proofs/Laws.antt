@@ -34,10 +34,10 @@ use Rattle.function.specs.Pool.{poolOf}
 use Rattle.function.specs.Code.{headerCheck, headerAt, listingCheck}
 use Rattle.disasm.specs.Listing.{headerText, linesText, viewBy, listView, listHeader, listObject, listCall}
 use Rattle.walk.specs.declared.Walked.{Walked}
-use Rattle.walk.specs.Walk.{walkCheck, walkFound, walkSource, objectSource, walkCall}
-use Rattle.program.specs.Printed.{refusalText, withinLimit, limitCheck, limited, told, shown, Printed, walkText, walkLimited, walkAnswer, walkShown}
+use Rattle.walk.specs.Walk.{walkCheck, walkFound, walkSource, objectSource, Promise, walkCall}
+use Rattle.walk.proofs.Answers.{promise-unless}
+use Rattle.program.specs.Printed.{refusalText, withinLimit, limitCheck, limited, told, shown, Printed, walkText, walkLimited, walkAnswer, walkShown, WalkPrinted}
 use Rattle.walk.specs.declared.Walked.the-variants as walked
-use Rattle.walk.specs.Walk as walk
 use Rattle.header.specs.declared.HeaderAnswer.the-variants as header-answer
 use Rattle.text.specs.declared.Written.the-variants as written
 
@@ -69,7 +69,7 @@ unfolding listView
 headed f (header-answer.Refused r) p el = refuses r (λ o. refl)
 headed f (header-answer.At h) p el =
     let v = viewBy f h p el in
-    let l = listed (v .code) (f .opcodes) (f .types) (v .frame .«reg_file_start») in
+    let l = listed (v .code) (v .opcodes) (f .types) (v .frame .«reg_file_start») in
     let t = headerText h ++ linesText v (l .instrs) in
     checked (listingCheck (v .opcodes) (v .pooled) l) (putText t) (puts t (λ o. refl))
 
@@ -208,3 +208,24 @@ walk-line (walked.Refused r) = line r
 pub walk-printed : (f : Files) (o : List ℕ) → length o ≡ 65536 → (w : Walked) → w ≡ walkAnswer f 65536 → {o′ : List ℕ} {n : ℕ} → Put o 0 (walkText w) o′ n → Printed (walkShown f) o o′ n
 walk-printed f o whole w e {o′} {n} p =
     subst (λ (x : Walked). Printed (walkText x) o o′ n) e (printed (walkText w) o o′ n whole (omega (arith, walk-line w)) p)
+
+-- ---- demand 3
+call-promised : (f : Files) (M : List ℕ) → Promise (objectSource f 0) (walkCall f 0 M .0) (walkCall f 0 M .1)
+unfolding walkCall
+call-promised f M = promise-unless (objectSource f 0) (firstRefusal (checkFiles f 0) (headerCheck (headerAt f 0))) M (refl, refl)
+
+walk-promised : (f : Files) (M : List ℕ) → Promise (objectSource f 0) (walkLimited f M .0) (walkLimited f M .1)
+unfolding walkLimited
+walk-promised f M = go (limitCheck f)
+  where
+    go : (c : Check) → let x = guardedOn c walked.Refused M (walkCall f 0 M) in Promise (objectSource f 0) (x .0) (x .1)
+    go Ok = call-promised f M
+    go (Refused r) = tt
+
+answer-promised : (f : Files) → Promise (objectSource f 0) (walkAnswer f 65536) (walkLimited f (replicate 65536 0) .1)
+unfolding walkAnswer
+answer-promised f = walk-promised f (replicate 65536 0)
+
+pub walk-printed-promised : (f : Files) (o : List ℕ) → length o ≡ 65536 → (w : Walked) → w ≡ walkAnswer f 65536 → {o′ : List ℕ} {n : ℕ} → Put o 0 (walkText w) o′ n → WalkPrinted f o o′ n
+walk-printed-promised f o whole w e p =
+    record { text = walk-printed f o whole w e p; marks = walkLimited f (replicate 65536 0) .1; promise = answer-promised f }

@@ -17,7 +17,7 @@ use Rattle.function.specs.Files.{Files}
 use Rattle.disasm.specs.Listing.{listCall}
 use Rattle.walk.specs.declared.Walked.{Walked}
 use Rattle.walk.specs.declared.Walked.the-variants as walked
-use Rattle.walk.specs.Walk.{walkCall}
+use Rattle.walk.specs.Walk.{objectSource, Promise, walkCall}
 
 -- "Either prints a refusal as `refused 14 at 1`"
 unfoldable pub refusalText : Refusal → List ℕ
@@ -72,3 +72,10 @@ pub record Printed (t o o′ : List ℕ) (r : ℕ) : Type 0 where
   pub within : r ≤ length o′
   pub start : take r o′ ≡ t
   pub rest : drop r o′ ≡ drop r o
+
+-- Demand 3 of the walk program: what it prints is the line of an answer that promises of object 0 what the walk check does, with marks that the
+-- program keeps to itself.
+pub record WalkPrinted (f : Files) (o o′ : List ℕ) (r : ℕ) : Type 0 where
+  pub text : Printed (walkShown f) o o′ r
+  pub marks : List ℕ
+  pub promise : Promise (objectSource f 0) (walkAnswer f 65536) marks

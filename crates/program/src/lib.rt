@@ -8,8 +8,9 @@ ghost use mathlib.Core.Path.{_≡_};
 ghost use lib.ListN.{length};
 ghost use Rattle.text.specs.Put.{Put};
 ghost use Rattle.text.specs.mirror.Written.{WrittenBy};
+ghost use Rattle.function.specs.Files.{filesOf};
 ghost use Rattle.walk.specs.declared.Walked.the-variants as walked;
-ghost use Rattle.program.specs.Printed.{refusalText, withinLimit, limited, shown, Printed, walkText, walkAnswer, walkShown};
+ghost use Rattle.program.specs.Printed.{refusalText, withinLimit, limited, shown, Printed, walkText, walkAnswer, WalkPrinted};
 
 // The line `refused 14 at 1`.
 fn put_refusal(out: &mut [u8], at: usize, r: Refusal) -> usize
@@ -34,7 +35,9 @@ pub fn list_text(
     slots: &[u8],
     payload: &[u8],
 ) -> usize
-    ensures { λ r. ⌜ Printed (shown (record { opcodes = now (opcodes .entry); types = now (types .entry); runtime = now (runtime .entry); intrinsic = now (intrinsic .entry); layout = now (layout .entry); objects = now (objects .entry); slots = now (slots .entry); payload = now (payload .entry) }) 65536) (now (out .entry)) (now (out .exit)) r ⌝ }
+    ensures { λ r. ⌜ Printed (shown
+        (filesOf (now (opcodes .entry)) (now (types .entry)) (now (runtime .entry)) (now (intrinsic .entry)) (now (layout .entry))
+        (now (objects .entry)) (now (slots .entry)) (now (payload .entry))) 65536) (now (out .entry)) (now (out .exit)) r ⌝ }
 {
     let listed = list_limited(
         out,
@@ -65,7 +68,9 @@ fn list_limited(
     slots: &[u8],
     payload: &[u8],
 ) -> Written
-    ensures { λ r. ⌜ WrittenBy (limited (record { opcodes = now (opcodes .entry); types = now (types .entry); runtime = now (runtime .entry); intrinsic = now (intrinsic .entry); layout = now (layout .entry); objects = now (objects .entry); slots = now (slots .entry); payload = now (payload .entry) }) (now (out .entry))) r (now (out .exit)) ⌝ }
+    ensures { λ r. ⌜ WrittenBy (limited
+        (filesOf (now (opcodes .entry)) (now (types .entry)) (now (runtime .entry)) (now (intrinsic .entry)) (now (layout .entry))
+        (now (objects .entry)) (now (slots .entry)) (now (payload .entry))) (now (out .entry))) r (now (out .exit)) ⌝ }
 {
     if within_limit(objects.len(), slots.len(), payload.len()) {
         return disasm::list(
@@ -102,7 +107,9 @@ pub fn walk_text(
     slots: &[u8],
     payload: &[u8],
 ) -> usize
-    ensures { λ r. ⌜ Printed (walkShown (record { opcodes = now (opcodes .entry); types = now (types .entry); runtime = now (runtime .entry); intrinsic = now (intrinsic .entry); layout = now (layout .entry); objects = now (objects .entry); slots = now (slots .entry); payload = now (payload .entry) })) (now (out .entry)) (now (out .exit)) r ⌝ }
+    ensures { λ r. ⌜ WalkPrinted
+        (filesOf (now (opcodes .entry)) (now (types .entry)) (now (runtime .entry)) (now (intrinsic .entry)) (now (layout .entry))
+        (now (objects .entry)) (now (slots .entry)) (now (payload .entry))) (now (out .entry)) (now (out .exit)) r ⌝ }
 {
     let walked = walk_marked(
         opcodes,
@@ -150,7 +157,9 @@ fn walk_marked(
     slots: &[u8],
     payload: &[u8],
 ) -> Walked
-    ensures { λ r. ⌜ r ≡ walkAnswer (record { opcodes = now (opcodes .entry); types = now (types .entry); runtime = now (runtime .entry); intrinsic = now (intrinsic .entry); layout = now (layout .entry); objects = now (objects .entry); slots = now (slots .entry); payload = now (payload .entry) }) 65536 ⌝ }
+    ensures { λ r. ⌜ r ≡ walkAnswer
+        (filesOf (now (opcodes .entry)) (now (types .entry)) (now (runtime .entry)) (now (intrinsic .entry)) (now (layout .entry))
+        (now (objects .entry)) (now (slots .entry)) (now (payload .entry))) 65536 ⌝ }
 {
     let mut marks = [0u8; 65536];
     walk_limited(
@@ -178,7 +187,9 @@ fn walk_limited(
     slots: &[u8],
     payload: &[u8],
 ) -> Walked
-    ensures { λ r. ⌜ r ≡ walkAnswer (record { opcodes = now (opcodes .entry); types = now (types .entry); runtime = now (runtime .entry); intrinsic = now (intrinsic .entry); layout = now (layout .entry); objects = now (objects .entry); slots = now (slots .entry); payload = now (payload .entry) }) (length (now (marks .entry))) ⌝ }
+    ensures { λ r. ⌜ r ≡ walkAnswer
+        (filesOf (now (opcodes .entry)) (now (types .entry)) (now (runtime .entry)) (now (intrinsic .entry)) (now (layout .entry))
+        (now (objects .entry)) (now (slots .entry)) (now (payload .entry))) (length (now (marks .entry))) ⌝ }
 {
     if within_limit(objects.len(), slots.len(), payload.len()) {
         return walk::walk(

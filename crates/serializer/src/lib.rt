@@ -103,7 +103,7 @@ pub fn slot_at(
     match check_at(objects, slots, payload, object) {
         Check::Ok => {
             let o = store::object_of(objects, object);
-            slot_answer(find_slot(slots, o.first, o.count, index))
+            slot_answer(slot_at_unchecked(slots, o.first, o.count, index))
         }
         Check::Refused(refusal) => SlotAnswer::Refused(refusal),
     }
@@ -179,7 +179,7 @@ fn raw_found(
     match check_at(objects, slots, payload, object) {
         Check::Ok => {
             let o = store::object_of(objects, object);
-            raw_answer(raw_place(slots, o.first, o.count, ts, off, len))
+            raw_answer(raw_at_unchecked(slots, o.first, o.count, ts, off, len))
         }
         Check::Refused(refusal) => RawAnswer::Refused(refusal),
     }
@@ -201,7 +201,7 @@ pub fn array_len(objects: &[u8], slots: &[u8], payload: &[u8], ts: u8, object: u
     match check_at(objects, slots, payload, object) {
         Check::Ok => {
             let o = store::object_of(objects, object);
-            LenAnswer::Len(array_len_of(slots, payload, o, ts))
+            LenAnswer::Len(array_len_unchecked(slots, payload, o, ts))
         }
         Check::Refused(refusal) => LenAnswer::Refused(refusal),
     }
@@ -221,7 +221,7 @@ pub fn array_elem(
     match check_at(objects, slots, payload, object) {
         Check::Ok => {
             let o = store::object_of(objects, object);
-            ElemAnswer::Elem(elem_at(slots, payload, o.first, o.count, ts, element))
+            ElemAnswer::Elem(array_elem_unchecked(slots, payload, o.first, o.count, ts, element))
         }
         Check::Refused(refusal) => ElemAnswer::Refused(refusal),
     }
@@ -243,7 +243,7 @@ pub fn bca_rt_off(
     match check_at(objects, slots, payload, object) {
         Check::Ok => {
             let o = store::object_of(objects, object);
-            OffAnswer::Off(rt_off(slots, o.first, o.count, ts, unit, off))
+            OffAnswer::Off(bca_rt_off_unchecked(slots, o.first, o.count, ts, unit, off))
         }
         Check::Refused(refusal) => OffAnswer::Refused(refusal),
     }
@@ -333,7 +333,7 @@ fn smi_tagged(raw: u32) -> Smi
 // Slots by their index.
 
 // slot_at of an object's slots.
-pub fn find_slot(slots: &[u8], first: u32, count: u32, index: u64) -> SlotAt
+pub fn slot_at_unchecked(slots: &[u8], first: u32, count: u32, index: u64) -> SlotAt
     ensures { λ r. ⌜ r ≡ slotSearched (now (slots .entry)) first count index ⌝ }
 {
     let i = partition_point(slots, first, count, index);
@@ -377,7 +377,7 @@ fn stops(index: u32, want: u64) -> bool
 // Fields in raw runs.
 
 // raw_at of an object's slots: where in the payload the len bytes from byte off of the object on are.
-pub fn raw_place(slots: &[u8], first: u32, count: u32, ts: u8, off: u64, len: u64) -> RawAt
+pub fn raw_at_unchecked(slots: &[u8], first: u32, count: u32, ts: u8, off: u64, len: u64) -> RawAt
     ensures { λ r. ⌜ r ≡ rawSearched (now (slots .entry)) first count ts off len ⌝ }
 {
     if ts == 0 {
@@ -448,7 +448,14 @@ enum ElemLook {
 }
 
 // array_elem of an object's slots.
-pub fn elem_at(slots: &[u8], payload: &[u8], first: u32, count: u32, ts: u8, element: u64) -> Elem
+pub fn array_elem_unchecked(
+    slots: &[u8],
+    payload: &[u8],
+    first: u32,
+    count: u32,
+    ts: u8,
+    element: u64,
+) -> Elem
     ensures { λ r. ⌜ r ≡ elemSearched (now (slots .entry)) (now (payload .entry)) first count ts element ⌝ }
 {
     if ts == 0 {
@@ -578,16 +585,19 @@ fn elem_bytes(payload: &[u8], at: usize, len: usize) -> Elem
 // Lengths.
 
 // array_len of an object and its slots.
-pub fn array_len_of(slots: &[u8], payload: &[u8], object: store::Object, ts: u8) -> u64
+pub fn array_len_unchecked(slots: &[u8], payload: &[u8], object: store::Object, ts: u8) -> u64
     ensures { λ r. ⌜ r ≡ lenSearched (now (slots .entry)) (now (payload .entry)) object ts ⌝ }
 {
     let first = object.first;
     let count = object.count;
-    let plain = plain_field(payload, raw_place(slots, first, count, ts, ts as u64, 4));
+    let plain = plain_field(
+        payload,
+        raw_at_unchecked(slots, first, count, ts, ts as u64, 4),
+    );
     let tagged = smi_field(
         payload,
         ts,
-        raw_place(slots, first, count, ts, ts as u64, ts as u64),
+        raw_at_unchecked(slots, first, count, ts, ts as u64, ts as u64),
     );
     let n = chosen(object, ts, plain, tagged);
     let most = most_elements(payload, ts);
@@ -682,7 +692,7 @@ enum Tail {
 }
 
 // bca_rt_off of an object's slots: where byte off of the capture is at run time.
-pub fn rt_off(slots: &[u8], first: u32, count: u32, ts: u8, unit: u8, off: u32) -> u64
+pub fn bca_rt_off_unchecked(slots: &[u8], first: u32, count: u32, ts: u8, unit: u8, off: u32) -> u64
     ensures { λ r. ⌜ r ≡ rtOff (now (slots .entry)) first count ts unit off ⌝ }
 {
     if ts == unit {

@@ -8,7 +8,7 @@ use Rattle.graph.specs.Graph.{Graph, Step}
 use Rattle.graph.specs.Graph.Step.{To, NoTarget}
 use Rattle.decoder.specs.declared.Instr.{Instr}
 use Rattle.decoder.specs.Listed.{Listing, listed}
-use Rattle.flow.specs.Flow.{flowOf}
+use Rattle.flow.specs.Opcodes.{Opcodes}
 use Rattle.flow.specs.declared.Flow.{Flow}
 use Rattle.flow.specs.declared.Kind.{Kind}
 use Rattle.flow.specs.declared.Kind.the-variants.{On, Ends, Jumps, Branches, JumpsBack, Switch}
@@ -25,7 +25,7 @@ use Rattle.targets.specs.declared.Entry.the-variants as entry
 -- what walks come from: "the lent code, records and payload, never .. the marks"
 pub record Source : Type 0 where
   pub code : List ℕ
-  pub opcodes : List ℕ
+  pub opcodes : Opcodes
   pub types : List ℕ
   pub rfs : ℤ
   pub pooled : Bool
@@ -83,7 +83,7 @@ instrSteps el pooled flow i = jumpSteps el pooled flow i ++ onSteps flow i
 -- the steps from the listed instruction at o
 unfoldable pub stepsAt : Source → List Instr → ℕ → List Step
 stepsAt s [] o = []
-stepsAt s (i ∷ is) o = cond (eqb (i .offset) o) (instrSteps (s .elem) (s .pooled) (flowOf (s .opcodes) (i .opcode)) i) (stepsAt s is o)
+stepsAt s (i ∷ is) o = cond (eqb (i .offset) o) (instrSteps (s .elem) (s .pooled) (s .opcodes .flow (i .opcode)) i) (stepsAt s is o)
 
 -- "Listed instructions are decoded from byte 0 of non-empty code, each where the last ended, to its end."
 abbrev pub listing : Source → Listing

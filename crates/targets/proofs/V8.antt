@@ -20,7 +20,7 @@ use Rattle.decoder.specs.declared.Instr.{Instr}
 use Rattle.decoder.specs.declared.Decoded.{Decoded}
 use Rattle.decoder.specs.Decode.{instrOf, recordsOf}
 use Rattle.flow.specs.Opcodes.{Opcodes}
-use Rattle.decoder.specs.Listed.{decodesBy}
+use Rattle.decoder.specs.Listed.{decodes}
 use Rattle.decoder.specs.V8.{OperandType, Bytecodes, typeInfo, isUnsigned, isPrefixScaling, toInt, size, prefixSize, operandScale, currentBytecode, currentTypes, nextOffset, getOperand}
 use Rattle.decoder.specs.V8.OperandType.{kIdx, kUImm, kImm, kReg}
 use Rattle.decoder.specs.Form.{codeOf, V8Form, shownOperand, shownFrom}
@@ -177,7 +177,7 @@ module _ (b : Bytecodes) (code : List ℕ) (ops : Opcodes) (types : List ℕ) (r
     (form : V8Form b ops types (getD code offset 0) (currentBytecode b code offset)) (held : length code ≤ 2 ^ 31)
     (el : ℕ → Elem) (pool : ConstantPool) (same : SamePool el pool) where
   abbrev instr : Instr
-  instr = decodesBy code ops types rfs offset .instr
+  instr = decodes code ops types rfs offset .instr
 
   abbrev prefix : ℕ
   prefix = prefixSize b code offset

@@ -21,7 +21,7 @@ use Rattle.store.specs.Check.{sizesOk, badObject, badSlot, checkStore}
 use Rattle.serializer.specs.Field.{rawAt}
 use Rattle.tables.specs.Check.{records, checkNames, isFaulty, firstFault, checkTable}
 use Rattle.tables.specs.Names.{badName}
-use Rattle.tables.specs.Records.{opcodeSize, opcodeNameSize, mostOpcodes, typeSize, typeNameSize, fixedTypes, mostTypes, nameSize, mostRuntime, mostIntrinsic, opcodeCount, typeCount, opcodeStart, prefixOp, opcodeOk, opcodeFault, typeOk, typeFault}
+use Rattle.tables.specs.Records.{opcodeSize, opcodeNameSize, mostOpcodes, typeSize, typeNameSize, fixedTypes, mostTypes, nameSize, mostRuntime, mostIntrinsic, opcodeCount, typeCount, opcodeStart, opcodeOk, opcodeFault, typeOk, typeFault}
 use Rattle.tables.specs.Layout.{layoutSize, badValue, layoutOf}
 use Rattle.header.specs.declared.HeaderAnswer.{HeaderAnswer}
 use Rattle.header.specs.declared.HeaderAnswer.the-variants as header-answer
@@ -31,10 +31,9 @@ use Rattle.decoder.specs.declared.Instr.{Instr}
 use Rattle.decoder.specs.declared.Outcome.{Outcome}
 use Rattle.decoder.specs.declared.Decoded.{Decoded}
 use Rattle.decoder.specs.Head.{opAt, behind, headAt}
-use Rattle.decoder.specs.Decode.{Part, partsFrom, operandTypes, partWidth, offsetOf, isShort, shortNumber, refusedAt, readParts, decodeHead, decodeBy}
+use Rattle.decoder.specs.Decode.{Part, partsFrom, operandTypes, partWidth, offsetOf, isShort, shortNumber, refusedAt, readParts, decodeHead, decodeAt}
 use Rattle.decoder.specs.Listed.{listOn, listFrom, decodes}
-use Rattle.flow.specs.Flow.{flowOf}
-use Rattle.flow.specs.Opcodes.{opcodesOf}
+use Rattle.flow.specs.Opcodes.{Opcodes, prefixWith}
 use Rattle.targets.specs.declared.Table.{Table}
 use Rattle.targets.specs.declared.Table.the-variants as table
 use Rattle.targets.specs.Targets.{jumpTable}
@@ -170,14 +169,14 @@ parts-row code types scale opcode rfs start at ps =
     let n = short-row (getD ps k Part.count) in
     by-test (λ (d : Decoded). OutcomeRow (d .outcome)) (ltb k (length ps)) {x = refusedAt (shortNumber (getD ps k Part.count)) (at + offsetOf ws k)} (λ t. its-row (record { least = n .0; most = n .1 })) (λ t. no-row)
 
-pub decode-row : (code ops types : List ℕ) (rfs : ℤ) (at : ℕ) → OutcomeRow (decodes code ops types rfs at .outcome)
-unfolding decodeBy
-decode-row code ops types rfs at = go (headAt code (opcodesOf ops .many) at (prefixOp ops 1) (prefixOp ops 2)) (head-row code (opcodesOf ops .many) at (prefixOp ops 1) (prefixOp ops 2))
+pub decode-row : (code : List ℕ) (ops : Opcodes) (types : List ℕ) (rfs : ℤ) (at : ℕ) → OutcomeRow (decodes code ops types rfs at .outcome)
+unfolding decodeAt
+decode-row code ops types rfs at = go (headAt code (ops .many) at (prefixWith ops 1) (prefixWith ops 2)) (head-row code (ops .many) at (prefixWith ops 1) (prefixWith ops 2))
   where
-    go : (h : Head) → HeadRow h → OutcomeRow (decodeHead h code (opcodesOf ops) types at rfs .outcome)
+    go : (h : Head) → HeadRow h → OutcomeRow (decodeHead h code ops types at rfs .outcome)
     go Head.End r = no-row
     go (Head.Refused q) r = its-row r
-    go (Head.Op opcode scale from) r = parts-row code types scale opcode rfs at from (partsFrom false (operandTypes (opcodesOf ops) opcode))
+    go (Head.Op opcode scale from) r = parts-row code types scale opcode rfs at from (partsFrom false (operandTypes ops opcode))
 
 list-row : (d : ℕ → Decoded) → ((at : ℕ) → OutcomeRow (d at .outcome)) → (f at : ℕ) → OutcomeRow (listFrom d f at .outcome)
 unfolding listFrom
@@ -189,10 +188,10 @@ list-row d all (suc f) at = go (d at .outcome) (all at) (list-row d all f (d at 
     go (Outcome.Refused q) r rest = r
     go Outcome.Done r rest = rest
 
-switch-row : (ops : List ℕ) (pooled : Bool) (is : List Instr) → RowOf (switchCheck ops pooled is)
+switch-row : (ops : Opcodes) (pooled : Bool) (is : List Instr) → RowOf (switchCheck ops pooled is)
 unfolding switchCheck
 switch-row ops pooled [] = no-row
-switch-row ops pooled (i ∷ is) = either-row (go (jumpTable pooled (flowOf ops (i .opcode)) i)) (switch-row ops pooled is)
+switch-row ops pooled (i ∷ is) = either-row (go (jumpTable pooled (ops .flow (i .opcode)) i)) (switch-row ops pooled is)
   where
     go : (t : Table) → RowOf (tableCheck t (i .offset))
     go table.Nothing = no-row

@@ -38,6 +38,7 @@ use Rattle.function.specs.mirror.Function.{functionOf}
 use Rattle.function.proofs.Searched.{header-found, pool-found, elems-found, lent-pool, lent-elems}
 use Rattle.walk.specs.declared.Walked.{Walked}
 use Rattle.walk.specs.Walk.{walkSource, objectSource, walkCall, lentSource, walkLent}
+use Rattle.flow.specs.Opcodes.{opcodesOf}
 use Rattle.steps.specs.Steps.{Source}
 use Rattle.walk.specs.mirror.Search.{sourceOf, sourceBy, headerFound, walkSearched}
 use Rattle.serializer.specs.declared.RawAt.the-variants as raw-at
@@ -77,7 +78,7 @@ module _ (f : Files) (M : List ℕ) where
   abbrev walkBy : HeaderAnswer → Pool → (ℕ → Elem) → Walked × List ℕ
   walkBy h p el =
       let l = layoutOf (f .layout) in
-      guardedOn (headerCheck h) walked.Refused M (walkSource (record { code = codeOf f h; opcodes = f .opcodes; types = f .types; rfs = l .frame .«reg_file_start»; pooled = found p; elem = el }) M)
+      guardedOn (headerCheck h) walked.Refused M (walkSource (record { code = codeOf f h; opcodes = opcodesOf (f .opcodes); types = f .types; rfs = l .frame .«reg_file_start»; pooled = found p; elem = el }) M)
 
   pub walked-searched : (k : ℕ) → checkFiles f k ≡ Ok → walkSearched f (objectOf (f .objects) k) M ≡ walkCall f k M
   unfolding walkSearched walkCall
@@ -125,7 +126,7 @@ module _ (f : Files) (w : PoolObject) (code : List ℕ) where
   lent-walked M ok u l p e e1 e2 =
       let at = layoutOf (f .layout) in
       let pool = e2 ∙ ap (λ (x : Layout). lentFound (f .objects) (f .slots) x w) e1 in
-      let source : Bool → (ℕ → Elem) → Source = λ x el. record { code = code; opcodes = f .opcodes; types = f .types; rfs = at .frame .«reg_file_start»; pooled = x; elem = el } in
+      let source : Bool → (ℕ → Elem) → Source = λ x el. record { code = code; opcodes = opcodesOf (f .opcodes); types = f .types; rfs = at .frame .«reg_file_start»; pooled = x; elem = el } in
       ap (λ (x : Function). walkSource (sourceOf code (f .opcodes) (f .types) (f .slots) (f .payload) x) M) e
       ∙ ap (λ (x : Layout). walkSource (sourceBy code (f .opcodes) (f .types) (f .slots) (f .payload) x p) M) e1
       ∙ ap (λ (x : Pool). walkSource (source (found x) (poolSearched (f .slots) (f .payload) (at .«tagged_size») p)) M) (lent-pool f w code ok pool)

@@ -17,6 +17,7 @@ use Rattle.function.specs.Pool.{poolOf, lentPool}
 use Rattle.function.specs.Code.{headerAt, headerCheck, codeOf, listingCheck}
 use Rattle.graph.specs.Graph.{Finding, Answer, finding, markList}
 use Rattle.graph.specs.Graph.Finding.{closed, leaves}
+use Rattle.flow.specs.Opcodes.{opcodesOf}
 use Rattle.steps.specs.Steps.{Source, listing, walkGraph}
 use Rattle.walk.specs.declared.Walked.{Walked}
 use Rattle.walk.specs.declared.Walked.the-variants as walked
@@ -60,7 +61,7 @@ Promise s (walked.Refused r) M = Unit {0}
 abbrev pub sourceWith : Files → List ℕ → Pool → Source
 sourceWith f code p =
     let l = layoutOf (f .layout) in
-    record { code = code; opcodes = f .opcodes; types = f .types; rfs = l .frame .«reg_file_start»; pooled = found p; elem = poolElem (f .slots) (f .payload) (l .«tagged_size») p }
+    record { code = code; opcodes = opcodesOf (f .opcodes); types = f .types; rfs = l .frame .«reg_file_start»; pooled = found p; elem = poolElem (f .slots) (f .payload) (l .«tagged_size») p }
 
 abbrev pub objectSource : Files → ℕ → Source
 objectSource f k = sourceWith f (codeOf f (headerAt f k)) (poolOf f (objectOf (f .objects) k))

@@ -1,7 +1,6 @@
 // The walk check: breadth first over the listed instructions, each expanded once.
 
 use decoder::Outcome;
-use flow::Flow;
 use function::Function;
 use function::PoolObject;
 use header::HeaderAnswer;
@@ -11,17 +10,17 @@ use steps::Next;
 use steps::Way;
 use store::Object;
 ghost use mathlib.Core.Path.{_≡_};
-ghost use Prim.Native.Nat.{ℕ, _≤_, _<_};
+ghost use Prim.Native.Nat.{_≤_, _<_};
 ghost use mathlib.Core.Bool.{true, false};
 ghost use lib.ListN.{length, getD, replicate};
 ghost use Rattle.decoder.specs.Listed.{listed};
-ghost use Rattle.flow.specs.Flow.{flowOf, Numbered};
+ghost use Rattle.flow.specs.Opcodes.{Opcodes, opcodesOf};
 ghost use Rattle.graph.specs.Graph.{Graph, isStart, Succ, exits};
 ghost use Rattle.graph.specs.mirror.Queue.{Held, Grown, SuccIn, Quiet, Lowest, lowerOf};
 ghost use Rattle.tables.specs.Records.{prefixOp};
 ghost use Rattle.steps.specs.Steps.{Source, listing};
 ghost use Rattle.steps.specs.mirror.Ways.{wayAt, searchGraph};
-ghost use mathlib.Core.List.{List, []};
+ghost use mathlib.Core.List.{[]};
 ghost use Rattle.decoder.specs.declared.Outcome.{Outcome as OutcomeIs};
 ghost use Rattle.function.specs.Files.{Files, filesOf, lentFiles};
 ghost use Rattle.walk.specs.Walk.{walkFound, walkSource, WalkedAs, Promise, objectSource, walkCall, lentSource, walkLent};
@@ -141,7 +140,7 @@ fn walk_object(
         ⌜ WalkedBy (walkSearched s object (now (marks .entry))) r (now (marks .exit)) ⌝ }
 {
     let shape = tables::layout_of(layout);
-    match header::header_of(slots, payload, object, shape) {
+    match header::header_at_unchecked(slots, payload, object, shape) {
         HeaderAnswer::Refused(refusal) => Walked::Refused(refusal),
         HeaderAnswer::At(h) => {
             let pool = function::pool_of(objects, slots, shape, object);
@@ -354,8 +353,8 @@ fn mark_starts(
     starts: &mut [u8],
 ) -> Check
     requires { ⌜ Tabled (now opcodes) (now flows) f × (now starts ≡ replicate (length (now code)) 0) ⌝ }
-    ensures { λ r. ⌜ Started (now (opcodes .entry)) f (listed (now (code .entry)) (now (opcodes .entry)) (now (types .entry)) (f .frame .«reg_file_start»))
-        (length (now (code .entry))) (now (starts .exit)) r ⌝ }
+    ensures { λ r. let ops : Opcodes = opcodesOf (now (opcodes .entry)) in
+        ⌜ Started ops f (listed (now (code .entry)) ops (now (types .entry)) (f .frame .«reg_file_start»)) (length (now (code .entry))) (now (starts .exit)) r ⌝ }
 {
     let pool = f.pool;
     let frame = f.frame;
@@ -377,8 +376,8 @@ fn mark_starts(
             Outcome::Refused(refusal) => return Check::Refused(refusal),
             Outcome::End => return check,
             Outcome::Done => {
-                let flow = flow_at(flows, instr.opcode);
-                let table = targets::jump_table(pool, flow, instr);
+                let flow = flow::flow_in(flows, instr.opcode);
+                let table = targets::jump_table_unchecked(pool, flow, instr);
                 check = refusal::first_refusal(check, function::table_check(table, instr.offset));
                 starts[i] = 1;
                 i = instr.end;
@@ -386,13 +385,6 @@ fn mark_starts(
         }
     }
     check
-}
-
-// The flow of an opcode, by the numbers that were found once.
-fn flow_at(flows: &[u8], op: u8) -> Flow
-    ensures { λ r. ⌜ ((ops : List ℕ) → Numbered ops (now (flows .entry)) 256 → r ≡ flowOf ops op) ⌝ }
-{
-    flow::flow_in(flows, op)
 }
 
 // Where the instruction at o goes.
@@ -422,7 +414,7 @@ fn way_at(
         f.extra,
     );
     let instr = d.instr;
-    let flow = flow_at(flows, instr.opcode);
+    let flow = flow::flow_in(flows, instr.opcode);
     steps::way_of(slots, payload, f.ts, pool, flow, instr)
 }
 

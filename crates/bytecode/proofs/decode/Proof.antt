@@ -34,8 +34,8 @@ blank-instr-requires c κs = search needs
 enum-told : tie.Need-enum-told
 enum-told c = search needs
 
-decode-with-requires : tie.Need-decode-with-requires
-decode-with-requires c κs = search needs
+decode-unchecked-requires : tie.Need-decode-unchecked-requires
+decode-unchecked-requires c κs = search needs
 
 -- what the checks answer
 checked : (c : tie.After-first-refusal) → let a = c .before .before .before .before .before .before .before .before .before .args in c .first-refusal .result ≡ firstRefusal (checkTable (now (a .opcodes)) (now (a .types)) [] [] (now (a .layout))) (checkCode (now (a .code)))
@@ -48,8 +48,8 @@ returns c = rw (sym (checked (c .before .before .before .before)) ∙ c .before 
 returns-2 : tie.Need-returns-2
 unfolding decodeOne
 returns-2 c = rw (sym (checked (c .before .before .before)) ∙ c .before .enum-told .given .1) (
-  ap (decodedNumbers (c .before .before .before .before .before .before .before .before .before .before .before .before .args .start)) (c .decode-with .ensures),
-  ap (λ (d : Decoded). d .instr) (c .decode-with .ensures),
+  ap (decodedNumbers (c .before .before .before .before .before .before .before .before .before .before .before .before .args .start)) (c .decode-unchecked .ensures),
+  ap (λ (d : Decoded). d .instr) (c .decode-unchecked .ensures),
 )
 
 pub decode-spec : {M : Type 1} → statement M
@@ -64,6 +64,6 @@ decode-spec =
     enum-known-refusal
     blank-instr-requires
     enum-told
-    decode-with-requires
+    decode-unchecked-requires
     returns
     returns-2)

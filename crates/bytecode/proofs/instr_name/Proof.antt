@@ -2,7 +2,7 @@ use mathlib.Core.Path.{refl}
 use native.Mathlib.Omega.{arith}
 use borrow.Author.Tests.{eq-eqb, ne-eqb}
 use Rattle.text.proofs.Put.{then}
-use Rattle.bytecode.specs.Texts.{nameBy}
+use Rattle.bytecode.specs.Texts.{instrName}
 use borrow.Author.Needs.{needs}
 use Rattle.bytecode.proofs.instr_name.Statement.{statement}
 use Rattle.bytecode.proofs.instr_name.Tie as tie
@@ -20,7 +20,7 @@ same-length : tie.Need-same-length
 same-length c = search needs
 
 returns : tie.Need-returns
-unfolding nameBy
+unfolding instrName
 returns c = rw (eq-eqb _ _ (c .before .if1 .taken), ← c .before .before .before .before .before .op-name .ensures) (then (omega (arith, c .before .before .before .before .before .before .before .before .before .good)) (c .before .before .before .before .put-bytes .ensures) (record { text = refl; end = c .saturating-add .ensures }))
 
 slice-aggregate-put-bytes : tie.Need-slice-aggregate-put-bytes
@@ -39,14 +39,14 @@ same-length-2 : tie.Need-same-length-2
 same-length-2 c = search needs
 
 returns-2 : tie.Need-returns-2
-unfolding nameBy
+unfolding instrName
 returns-2 c = rw (ne-eqb _ _ (c .before .before .before .before .before .before .if1 .left), eq-eqb _ _ (c .before .before .before .before .before .if2 .taken), ← c .before .before .before .before .before .before .before .before .before .before .op-name .ensures) (then (omega (arith, c .before .before .before .before .before .before .before .before .before .before .before .before .before .before .good)) (c .before .before .before .before .before .before .before .before .before .put-bytes .ensures) (c .before .before .put-bytes2 .ensures))
 
 same-length-3 : tie.Need-same-length-3
 same-length-3 c = search needs
 
 returns-3 : tie.Need-returns-3
-unfolding nameBy
+unfolding instrName
 returns-3 c = rw (ne-eqb _ _ (c .before .before .before .before .before .before .if1 .left), ne-eqb _ _ (c .before .before .before .before .before .if2 .left), ← c .before .before .before .before .before .before .before .before .before .before .op-name .ensures) (then (omega (arith, c .before .before .before .before .before .before .before .before .before .before .before .before .before .before .good)) (c .before .before .before .before .before .before .before .before .before .put-bytes .ensures) (c .before .before .put-bytes3 .ensures))
 
 pub instr-name-spec : {M : Type 1} → statement M

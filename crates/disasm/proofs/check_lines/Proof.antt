@@ -12,10 +12,11 @@ use Rattle.text.specs.Put.{place}
 use Rattle.decoder.specs.declared.Decoded.{Decoded}
 use Rattle.decoder.proofs.Listed.{past, decode-end}
 use Rattle.flow.specs.Flow.{flowOf}
+use Rattle.flow.specs.Opcodes.{opcodesOf}
 use Rattle.flow.specs.declared.Flow.{Flow}
 use Rattle.targets.specs.Targets.{jumpTable, found}
 use Rattle.targets.specs.declared.Table.{Table}
-use Rattle.lines.specs.Room.{lineRoom}
+use Rattle.lines.specs.mirror.Room.{lineRoom}
 use Rattle.function.specs.Code.{tableCheck}
 use Rattle.function.specs.mirror.Function.{decodedBy}
 use Rattle.disasm.proofs.Checking.{RoomInv, room-start, room-end, checked-refused, checked-end, checked-done}
@@ -23,7 +24,7 @@ use Rattle.disasm.proofs.check_lines.Statement.{statement}
 use Rattle.disasm.proofs.check_lines.Tie as tie
 
 abbrev Inv-loop : tie.InvT-loop
-Inv-loop code opcodes types flows f rfs pool p₀ check₀ i₀ p check i = RoomInv opcodes (found (f .pool)) (decodedBy code opcodes types f) (length code) p check i
+Inv-loop code opcodes types flows f rfs pool p₀ check₀ i₀ p check i = RoomInv (opcodesOf opcodes) (found (f .pool)) (decodedBy code opcodes types f) (length code) p check i
 
 abbrev μ-loop : tie.MeasureT-loop
 μ-loop code opcodes types flows f rfs pool p₀ check₀ i₀ p check i = length code - i
@@ -56,11 +57,11 @@ returns-2 c = checked-end _ _ _ _ (c .before .before .before .before .before .lo
 enum-told-2 : tie.Need-enum-told-2 Inv-loop μ-loop
 enum-told-2 c = search needs
 
-flow-at-requires : tie.Need-flow-at-requires Inv-loop μ-loop
-flow-at-requires c κs = search needs
+flow-in-requires : tie.Need-flow-in-requires Inv-loop μ-loop
+flow-in-requires c κs = search needs
 
-jump-table-requires : tie.Need-jump-table-requires Inv-loop μ-loop
-jump-table-requires c κs = search needs
+jump-table-unchecked-requires : tie.Need-jump-table-unchecked-requires Inv-loop μ-loop
+jump-table-unchecked-requires c κs = search needs
 
 table-check-requires : tie.Need-table-check-requires Inv-loop μ-loop
 table-check-requires c κs = search needs
@@ -81,12 +82,12 @@ progress c =
     let a = c .before .before .before .before .before .before .before .before .before .before .before .before .args in
     let e = decoded-is (c .before .before .before) in
     subst (λ (y : Decoded). (c .before .before .before .before .before .loop .i < y .instr .end) × (y .instr .end ≤ length (now (a .code)))) (sym e)
-    (past (now (a .code)) (now (a .opcodes)) (now (a .types)) (a .f .frame .«reg_file_start») (a .f .wide) (a .f .extra) (c .before .before .before .before .before .loop .i)
+    (past (now (a .code)) (opcodesOf (now (a .opcodes))) (now (a .types)) (a .f .frame .«reg_file_start») (a .f .wide) (a .f .extra) (c .before .before .before .before .before .loop .i)
     (ap (λ (y : Decoded). y .outcome) (sym e) ∙ c .enum-told2 .given .1))
 
 -- the flow of its opcode
-flow-is : (c : tie.After-flow-at Inv-loop μ-loop) → c .flow-at .result ≡ flowOf (now (c .before .before .before .before .before .before .before .before .before .before .before .before .before .args .opcodes)) (c .before .before .before .before .decode-at .result .instr .opcode)
-flow-is c = c .flow-at .ensures (now (c .before .before .before .before .before .before .before .before .before .before .before .before .before .args .opcodes)) (c .before .before .before .before .before .before .before .before .before .before .before .before .before .pre)
+flow-is : (c : tie.After-flow-in Inv-loop μ-loop) → c .flow-in .result ≡ flowOf (now (c .before .before .before .before .before .before .before .before .before .before .before .before .before .args .opcodes)) (c .before .before .before .before .decode-at .result .instr .opcode)
+flow-is c = c .flow-in .ensures (now (c .before .before .before .before .before .before .before .before .before .before .before .before .before .args .opcodes)) (c .before .before .before .before .before .before .before .before .before .before .before .before .before .pre)
 
 loop-less : tie.Need-loop-less Inv-loop μ-loop
 loop-less c = let q = progress (c .before .before .before .before .before .before) in omega (arith, q .0, q .1)
@@ -98,10 +99,10 @@ loop-again c =
     let x = c .before .before .before .before .before .before .before .before .before .decode-at .result in
     let q = progress (c .before .before .before .before .before .before) in
     let f = flow-is (c .before .before .before .before .before) in
-    let t = c .before .before .before .before .jump-table .ensures ∙ ap (λ (z : Flow). jumpTable (found (a .f .pool)) z (x .instr)) f in
+    let t = c .before .before .before .before .jump-table-unchecked .ensures ∙ ap (λ (z : Flow). jumpTable (found (a .f .pool)) z (x .instr)) f in
     let k = c .before .before .first-refusal .ensures ∙ ap (firstRefusal (l .check)) (c .before .before .before .table-check .ensures ∙ ap (λ (z : Table). tableCheck z (x .instr .offset)) t) in
     let m = c .saturating-add .ensures ∙ ap (λ (n : ℕ). place (l .p + n)) (c .before .line-room .ensures
-    ∙ ap (λ (z : Flow). place (lineRoom z (x .instr) (c .before .before .before .before .jump-table .result))) f
+    ∙ ap (λ (z : Flow). place (lineRoom z (x .instr) (c .before .before .before .before .jump-table-unchecked .result))) f
     ∙ ap (λ (z : Table). place (lineRoom (flowOf (now (a .opcodes)) (x .instr .opcode)) (x .instr) z)) t) in
     checked-done _ _ _ _ (l .inv) x (decoded-is (c .before .before .before .before .before .before .before .before .before)) (c .before .before .first-refusal .result) (c .before .before .before .before .before .before .enum-told2 .given .1) (q .0) (q .1) k m
 
@@ -110,7 +111,7 @@ returns-3 c =
     let a = c .before .before .before .before .before .before .before .before .args in
     let l = c .before .loop in
     let e : l .i ≡ length (now (a .code)) = omega (arith, l .inv .going .pass .inside, c .loop-test .left) in
-    room-end _ _ _ _ (l .inv) (decode-end (now (a .code)) (now (a .opcodes)) (now (a .types)) (a .f .frame .«reg_file_start») (a .f .wide) (a .f .extra) (l .i) e)
+    room-end _ _ _ _ (l .inv) (decode-end (now (a .code)) (opcodesOf (now (a .opcodes))) (now (a .types)) (a .f .frame .«reg_file_start») (a .f .wide) (a .f .extra) (l .i) e)
 
 pub check-lines-spec : {M : Type 1} → statement M
 check-lines-spec =
@@ -125,8 +126,8 @@ check-lines-spec =
     enum-told
     returns-2
     enum-told-2
-    flow-at-requires
-    jump-table-requires
+    flow-in-requires
+    jump-table-unchecked-requires
     table-check-requires
     first-refusal-requires
     line-room-requires

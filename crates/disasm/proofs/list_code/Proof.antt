@@ -1,6 +1,7 @@
 use borrow.Author.Needs.{needs}
 use native.Mathlib.Omega.{arith}
 use denote.Ref.{now}
+use Rattle.lines.proofs.Room.{names-fit}
 use Rattle.disasm.proofs.Laws.{check-refused, check-fine, check-fits, check-written}
 use Rattle.disasm.proofs.list_code.Statement.{statement}
 use Rattle.disasm.proofs.list_code.Tie as tie
@@ -27,7 +28,7 @@ same-length : tie.Need-same-length
 same-length c = search needs
 
 returns-2 : tie.Need-returns-2
-returns-2 c = check-fits _ _ _ (now (c .before .before .before .before .before .before .before .before .before .before .before .before .before .before .before .before .before .args .out)) (c .before .before .before .before .before .before .before .check-lines .ensures) (c .before .before .before .before .before .enum-told .given .1) (omega (arith, c .before .before .before .before .before .before .before .before .before .before .before .before .before .before .before .before .before .good)) (omega (arith, c .before .before .before .before .if1 .taken)) (c .before .before .put-all .ensures)
+returns-2 c = check-fits _ _ _ (now (c .before .before .before .before .before .before .before .before .before .before .before .before .before .before .before .before .before .args .out)) (c .before .before .before .before .before .before .before .check-lines .ensures) (c .before .before .before .before .before .enum-told .given .1) (names-fit (now (c .before .before .before .before .before .before .before .before .before .before .before .before .before .before .before .before .before .args .opcodes))) (omega (arith, c .before .before .before .before .before .before .before .before .before .before .before .before .before .before .before .before .before .good)) (omega (arith, c .before .before .before .before .if1 .taken)) (c .before .before .put-all .ensures)
 
 same-length-2 : tie.Need-same-length-2
 same-length-2 c = search needs

@@ -11,6 +11,7 @@ use Rattle.text.proofs.Put.{part}
 use Rattle.decoder.specs.declared.Decoded.{Decoded}
 use Rattle.decoder.proofs.Listed.{past, decode-end}
 use Rattle.flow.specs.Flow.{flowOf}
+use Rattle.flow.specs.Opcodes.{opcodesOf}
 use Rattle.function.specs.mirror.Function.{decodedBy}
 use Rattle.lines.specs.mirror.View.{viewOf}
 use Rattle.lines.proofs.PutUpTo.{up-to-kept}
@@ -63,8 +64,8 @@ returns-2 c = end-at _ _ _ (c .before .before .before .before .before .loop .inv
 enum-told-3 : tie.Need-enum-told-3 Inv-loop μ-loop
 enum-told-3 c = search needs
 
-flow-at-requires : tie.Need-flow-at-requires Inv-loop μ-loop
-flow-at-requires c κs = search needs
+flow-in-requires : tie.Need-flow-in-requires Inv-loop μ-loop
+flow-in-requires c κs = search needs
 
 min-requires : tie.Need-min-requires Inv-loop μ-loop
 min-requires c κs = search needs
@@ -91,12 +92,12 @@ progress c =
     let a = c .before .before .before .before .before .before .before .before .before .before .before .before .before .before .before .before .before .before .args in
     let e = decoded-is (c .before .before .before) in
     subst (λ (y : Decoded). (c .before .before .before .before .before .loop .i < y .instr .end) × (y .instr .end ≤ length (now (a .code)))) (sym e)
-    (past (now (a .code)) (now (a .opcodes)) (now (a .types)) (a .f .frame .«reg_file_start») (a .f .wide) (a .f .extra) (c .before .before .before .before .before .loop .i)
+    (past (now (a .code)) (opcodesOf (now (a .opcodes))) (now (a .types)) (a .f .frame .«reg_file_start») (a .f .wide) (a .f .extra) (c .before .before .before .before .before .loop .i)
     (ap (λ (y : Decoded). y .outcome) (sym e) ∙ c .enum-told3 .given .1))
 
 -- the flow of its opcode
-flow-is : (c : tie.After-flow-at Inv-loop μ-loop) → c .flow-at .result ≡ flowOf (now (c .before .before .before .before .before .before .before .before .before .before .before .before .before .before .before .before .before .before .before .args .opcodes)) (c .before .before .before .before .decode-at .result .instr .opcode)
-flow-is c = c .flow-at .ensures (now (c .before .before .before .before .before .before .before .before .before .before .before .before .before .before .before .before .before .before .before .args .opcodes)) (c .before .before .before .before .before .before .before .before .before .before .before .before .before .before .before .before .before .before .before .pre .0)
+flow-is : (c : tie.After-flow-in Inv-loop μ-loop) → c .flow-in .result ≡ flowOf (now (c .before .before .before .before .before .before .before .before .before .before .before .before .before .before .before .before .before .before .before .args .opcodes)) (c .before .before .before .before .decode-at .result .instr .opcode)
+flow-is c = c .flow-in .ensures (now (c .before .before .before .before .before .before .before .before .before .before .before .before .before .before .before .before .before .before .before .args .opcodes)) (c .before .before .before .before .before .before .before .before .before .before .before .before .before .before .before .before .before .before .before .pre .0)
 
 loop-less : tie.Need-loop-less Inv-loop μ-loop
 loop-less c = let q = progress (c .before .before .before .before .before .before .before) in omega (arith, q .0, q .1)
@@ -117,7 +118,7 @@ returns-3 c =
     let a = c .before .before .before .before .before .before .before .before .before .before .before .before .before .before .args in
     let l = c .before .loop in
     let e : l .i ≡ length (now (a .code)) = omega (arith, l .inv .pass .inside, c .loop-test .left) in
-    write-end _ _ _ (l .inv) (decode-end (now (a .code)) (now (a .opcodes)) (now (a .types)) (a .f .frame .«reg_file_start») (a .f .wide) (a .f .extra) (l .i) e)
+    write-end _ _ _ (l .inv) (decode-end (now (a .code)) (opcodesOf (now (a .opcodes))) (now (a .types)) (a .f .frame .«reg_file_start») (a .f .wide) (a .f .extra) (l .i) e)
 
 pub put-lines-spec : {M : Type 1} → statement M
 put-lines-spec =
@@ -135,7 +136,7 @@ put-lines-spec =
     same-length-2
     returns-2
     enum-told-3
-    flow-at-requires
+    flow-in-requires
     min-requires
     sub-put-line
     part-put-line-start

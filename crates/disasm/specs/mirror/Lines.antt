@@ -8,9 +8,9 @@ use Rattle.refusal.specs.declared.Check.the-variants.{Ok}
 use Rattle.text.specs.Put.{place}
 use Rattle.decoder.specs.declared.Instr.{Instr}
 use Rattle.decoder.specs.Listed.{Listing}
-use Rattle.flow.specs.Flow.{flowOf}
+use Rattle.flow.specs.Opcodes.{Opcodes}
 use Rattle.targets.specs.Targets.{jumpTable}
-use Rattle.lines.specs.Room.{lineRoom}
+use Rattle.lines.specs.mirror.Room.{lineRoom}
 use Rattle.function.specs.Code.{codeCheck, listingCheck}
 use Rattle.disasm.specs.declared.Pass.{Pass}
 
@@ -19,11 +19,11 @@ abbrev pub headerRoom : ℕ
 headerRoom = 250
 
 -- a length that the lines are not longer than
-unfoldable pub linesRoom : List ℕ → Bool → List Instr → ℕ
+unfoldable pub linesRoom : Opcodes → Bool → List Instr → ℕ
 linesRoom ops pooled [] = 0
-linesRoom ops pooled (i ∷ is) = let flow = flowOf ops (i .opcode) in lineRoom flow i (jumpTable pooled flow i) + linesRoom ops pooled is
+linesRoom ops pooled (i ∷ is) = let flow = ops .flow (i .opcode) in lineRoom flow i (jumpTable pooled flow i) + linesRoom ops pooled is
 
 -- the checks, and, where decoding came to the code's end, room for the header and the lines
-pub record Checked (ops : List ℕ) (pooled : Bool) (l : Listing) (r : Pass) : Type 0 where
+pub record Checked (ops : Opcodes) (pooled : Bool) (l : Listing) (r : Pass) : Type 0 where
   pub checked : r .check ≡ listingCheck ops pooled l
   pub room : codeCheck (l .outcome) ≡ Ok → r .room ≡ place (headerRoom + linesRoom ops pooled (l .instrs))

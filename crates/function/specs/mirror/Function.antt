@@ -5,6 +5,7 @@ use lib.ListN.{length}
 use lib.IntN.{ℤ}
 use Rattle.tables.specs.declared.Layout.{Layout}
 use Rattle.tables.specs.Records.{prefixOp}
+use Rattle.flow.specs.Opcodes.{opcodesOf}
 use Rattle.decoder.specs.declared.Decoded.{Decoded}
 use Rattle.decoder.specs.Decode.{decodeAt}
 use Rattle.decoder.specs.Listed.{Listing, listFrom}
@@ -23,7 +24,7 @@ functionOf opcodes l p params = record {
 
 -- what is decoded at a place of its code
 abbrev pub decodedBy : List ℕ → List ℕ → List ℕ → Function → ℕ → Decoded
-decodedBy code opcodes types f i = decodeAt code opcodes types i (f .frame .«reg_file_start») (f .wide) (f .extra)
+decodedBy code opcodes types f i = decodeAt code (opcodesOf opcodes) types i (f .frame .«reg_file_start») (f .wide) (f .extra)
 
 -- its listed instructions
 abbrev pub listedBy : List ℕ → List ℕ → List ℕ → Function → Listing

@@ -1,6 +1,7 @@
 use Prim.Native.Nat.{ℕ}
 use mathlib.Core.Path.{sym, ap, _∙_}
 use denote.Ref.{now}
+use Rattle.flow.specs.Opcodes.{opcodesOf}
 use Rattle.tables.specs.declared.Layout.{Layout}
 use Rattle.function.specs.Files.{lentFiles}
 use Rattle.jumps.specs.Numbers.{entryNumbers}
@@ -34,8 +35,8 @@ layout-of-requires c κs = search needs
 lent-pool-requires : tie.Need-lent-pool-requires
 lent-pool-requires c κs = search needs
 
-decode-with-requires : tie.Need-decode-with-requires
-decode-with-requires c κs = search needs
+decode-unchecked-requires : tie.Need-decode-unchecked-requires
+decode-unchecked-requires c κs = search needs
 
 table-of-requires : tie.Need-table-of-requires
 table-of-requires c κs = search needs
@@ -58,10 +59,10 @@ returns-2 c =
     let w = a .object in
     let ok = sym (c .before .before .before .before .before .before .before .before .before .check-lent .ensures) ∙ c .before .before .before .before .before .before .before .enum-told .given .1 in
     let p = c .before .before .before .before .before .lent-pool .ensures ∙ ap (λ (x : Layout). lentFound (f .objects) (f .slots) x w) (c .before .before .before .before .before .before .layout-of .ensures) in
-    let decoded = c .before .before .before .before .decode-with .ensures in
+    let decoded = c .before .before .before .before .decode-unchecked .ensures in
     let t = c .before .before .before .table-of .ensures
-    ∙ ap (λ (x : Pool). tableOf (f .opcodes) (found x) (c .before .before .before .before .decode-with .result) (a .at)) (lent-pool f w (now (a .code)) ok p)
-    ∙ ap (λ (x : Decoded). tableOf (f .opcodes) (found (lentPool f w)) x (a .at)) decoded in
+    ∙ ap (λ (x : Pool). tableOf (opcodesOf (f .opcodes)) (found x) (c .before .before .before .before .decode-unchecked .result) (a .at)) (lent-pool f w (now (a .code)) ok p)
+    ∙ ap (λ (x : Decoded). tableOf (opcodesOf (f .opcodes)) (found (lentPool f w)) x (a .at)) decoded in
     let from = c .before .here .ensures ∙ ap (λ (x : Decoded). here (x .instr)) decoded in
     rw ok
     (ap (entryNumbers (a .at))
@@ -80,7 +81,7 @@ jump-entry-spec =
     enum-told
     layout-of-requires
     lent-pool-requires
-    decode-with-requires
+    decode-unchecked-requires
     table-of-requires
     here-requires
     entry-of-requires

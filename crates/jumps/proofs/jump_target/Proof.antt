@@ -1,6 +1,7 @@
 use Prim.Native.Nat.{ℕ}
 use mathlib.Core.Path.{sym, ap, _∙_}
 use denote.Ref.{now}
+use Rattle.flow.specs.Opcodes.{opcodesOf}
 use Rattle.tables.specs.declared.Layout.{Layout}
 use Rattle.function.specs.Files.{lentFiles}
 use Rattle.jumps.specs.Numbers.{targetNumbers}
@@ -29,8 +30,8 @@ layout-of-requires c κs = search needs
 lent-pool-requires : tie.Need-lent-pool-requires
 lent-pool-requires c κs = search needs
 
-decode-with-requires : tie.Need-decode-with-requires
-decode-with-requires c κs = search needs
+decode-unchecked-requires : tie.Need-decode-unchecked-requires
+decode-unchecked-requires c κs = search needs
 
 target-of-requires : tie.Need-target-of-requires
 target-of-requires c κs = search needs
@@ -47,13 +48,13 @@ returns-2 c = let a = c .before .before .before .before .before .before .before 
     let p = c .before .before .lent-pool .ensures ∙ ap (λ (x : Layout). lentFound (f .objects) (f .slots) x (a .object)) (c .before .before .before .layout-of .ensures) in
     let el = lent-elems f (a .object) (now (a .code)) ok p in
     let pool = c .before .before .lent-pool .result in
-    let d = c .before .decode-with .result in
+    let d = c .before .decode-unchecked .result in
     rw ok
     (ap (targetNumbers (a .at))
     (c .target-of .ensures
-    ∙ ap (λ (x : Layout). targetOf (f .opcodes) (poolSearched (f .slots) (f .payload) (x .«tagged_size») pool) d) (c .before .before .before .layout-of .ensures)
-    ∙ ap (λ (x : ℕ → Elem). targetOf (f .opcodes) x d) el
-    ∙ ap (targetOf (f .opcodes) (lentElem f (a .object))) (c .before .decode-with .ensures)))
+    ∙ ap (λ (x : Layout). targetOf (opcodesOf (f .opcodes)) (poolSearched (f .slots) (f .payload) (x .«tagged_size») pool) d) (c .before .before .before .layout-of .ensures)
+    ∙ ap (λ (x : ℕ → Elem). targetOf (opcodesOf (f .opcodes)) x d) el
+    ∙ ap (targetOf (opcodesOf (f .opcodes)) (lentElem f (a .object))) (c .before .decode-unchecked .ensures)))
 
 pub jump-target-spec : {M : Type 1} → statement M
 jump-target-spec =
@@ -64,7 +65,7 @@ jump-target-spec =
     enum-told
     layout-of-requires
     lent-pool-requires
-    decode-with-requires
+    decode-unchecked-requires
     target-of-requires
     returns
     returns-2)

@@ -27,8 +27,8 @@ saturating-add-requires c κs = search needs
 loop-holds : tie.Need-loop-holds Inv-loop μ-loop
 loop-holds c = (omega arith, refl, rw sub-zero (up-to-none (now (c .before .before .before .before .args .out)) (c .before .before .before .before .args .at) _ (c .saturating-add .ensures)))
 
-entry-at-requires : tie.Need-entry-at-requires Inv-loop μ-loop
-entry-at-requires c κs = search needs
+jump-entry-unchecked-requires : tie.Need-jump-entry-unchecked-requires Inv-loop μ-loop
+jump-entry-unchecked-requires c κs = search needs
 
 put-entry-requires : tie.Need-put-entry-requires Inv-loop μ-loop
 put-entry-requires c κs = search needs
@@ -48,8 +48,8 @@ loop-again c =
     let l = c .before .before .before .before .before .before .before .loop in
     let n = a .e .count in
     let el = elemsOf (now (a .slots)) (now (a .payload)) (a .f) in
-    let s = c .shown-after .ensures ∙ ap (shownAfter (l .shown)) (c .before .before .before .before .before .entry-at .ensures) in
-    let b = rw (c .before .before .before .before .before .entry-at .ensures) at (c .before .before .before .put-entry .ensures) in (
+    let s = c .shown-after .ensures ∙ ap (shownAfter (l .shown)) (c .before .before .before .before .before .jump-entry-unchecked .ensures) in
+    let b = rw (c .before .before .before .before .before .jump-entry-unchecked .ensures) at (c .before .before .before .put-entry .ensures) in (
       omega arith,
       refl,
       rw s (up-to-more (entryText (l .shown) (entryAt el (a .here) (a .e) (l .k))) (entriesFrom el (a .here) (a .e) (shownAfter (l .shown) (entryAt el (a .here) (a .e) (l .k))) (l .k + 1) (n - (l .k + 1)))
@@ -74,7 +74,7 @@ put-entries-spec =
     μ-loop
     saturating-add-requires
     loop-holds
-    entry-at-requires
+    jump-entry-unchecked-requires
     put-entry-requires
     shown-after-requires
     add-k

@@ -3,6 +3,7 @@
 use Prim.Native.Nat.{ℕ}
 use mathlib.Core.List.{List}
 use Rattle.serializer.specs.declared.Elem.{Elem}
+use Rattle.flow.specs.Opcodes.{opcodesOf}
 use Rattle.bytecode.specs.Texts.{NameFiles}
 use Rattle.targets.specs.Targets.{found}
 use Rattle.targets.specs.mirror.Search.{poolSearched}
@@ -20,7 +21,7 @@ elemsOf slots payload f = poolSearched slots payload (f .ts) (f .pool)
 abbrev pub viewOf : List ℕ → List ℕ → List ℕ → List ℕ → List ℕ → List ℕ → List ℕ → Function → View
 viewOf code opcodes types runtime intrinsic slots payload f = record {
   code = code;
-  opcodes = opcodes;
+  opcodes = opcodesOf opcodes;
   names = namesOf types runtime intrinsic;
   frame = f .frame;
   params = f .params;

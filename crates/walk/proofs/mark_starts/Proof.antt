@@ -8,11 +8,11 @@ use mir.Val.{SFits}
 use denote.Ref.{now}
 use lib.ListN.{length}
 use Rattle.refusal.specs.Check.{firstRefusal}
-use Rattle.tables.specs.Records.{prefixOp}
 use Rattle.decoder.specs.declared.Decoded.{Decoded}
 use Rattle.decoder.specs.Listed.{decodes}
 use Rattle.decoder.proofs.Listed.{past, decode-end}
 use Rattle.flow.specs.Flow.{flowOf}
+use Rattle.flow.specs.Opcodes.{opcodesOf}
 use Rattle.flow.specs.declared.Flow.{Flow}
 use Rattle.targets.specs.Targets.{jumpTable, found}
 use Rattle.targets.specs.declared.Table.{Table}
@@ -24,7 +24,7 @@ use Rattle.walk.proofs.mark_starts.Statement.{statement}
 use Rattle.walk.proofs.mark_starts.Tie as tie
 
 abbrev Inv-loop : tie.InvT-loop
-Inv-loop code opcodes types flows f starts₀ pool frame check₀ i₀ starts check i = Marking opcodes f (decodes code opcodes types (f .frame .«reg_file_start»)) (length code) starts check i
+Inv-loop code opcodes types flows f starts₀ pool frame check₀ i₀ starts check i = Marking (opcodesOf opcodes) f (decodes code (opcodesOf opcodes) types (f .frame .«reg_file_start»)) (length code) starts check i
 
 abbrev μ-loop : tie.MeasureT-loop
 μ-loop code opcodes types flows f starts₀ pool frame check₀ i₀ starts check i = length code - i
@@ -33,7 +33,7 @@ loop-holds : tie.Need-loop-holds Inv-loop μ-loop
 loop-holds c = marking-start _ _ _ _ (now (c .before .before .before .before .before .before .args .starts)) (c .before .before .before .before .before .before .pre .1)
 
 -- what is decoded at the place that the loop stands at
-is : (c : tie.After-decode-at Inv-loop μ-loop) → let a = c .before .before .before .before .before .before .before .before .before .before .args in c .decode-at .result ≡ decodes (now (a .code)) (now (a .opcodes)) (now (a .types)) (a .f .frame .«reg_file_start») (c .before .before .before .loop .i)
+is : (c : tie.After-decode-at Inv-loop μ-loop) → let a = c .before .before .before .before .before .before .before .before .before .before .args in c .decode-at .result ≡ decodes (now (a .code)) (opcodesOf (now (a .opcodes))) (now (a .types)) (a .f .frame .«reg_file_start») (c .before .before .before .loop .i)
 is c =
     let a = c .before .before .before .before .before .before .before .before .before .before .args in
     let f : SFits w32 (a .f .frame .«reg_file_start») = record { sfits = c .before .struct-told .given .0 .1 } in
@@ -67,11 +67,11 @@ returns-2 c = end-at _ _ _ _ (c .before .before .before .before .before .before 
 enum-told-2 : tie.Need-enum-told-2 Inv-loop μ-loop
 enum-told-2 c = search needs
 
-flow-at-requires : tie.Need-flow-at-requires Inv-loop μ-loop
-flow-at-requires c κs = search needs
+flow-in-requires : tie.Need-flow-in-requires Inv-loop μ-loop
+flow-in-requires c κs = search needs
 
-jump-table-requires : tie.Need-jump-table-requires Inv-loop μ-loop
-jump-table-requires c κs = search needs
+jump-table-unchecked-requires : tie.Need-jump-table-unchecked-requires Inv-loop μ-loop
+jump-table-unchecked-requires c κs = search needs
 
 table-check-requires : tie.Need-table-check-requires Inv-loop μ-loop
 table-check-requires c κs = search needs
@@ -89,12 +89,12 @@ progress c =
     let i = c .before .before .before .before .before .before .loop .i in
     let e = is (c .before .before .before) in
     let done = ap (λ (y : Decoded). y .outcome) (sym e) ∙ c .enum-told2 .given .1 in
-    let q = past (now (a .code)) (now (a .opcodes)) (now (a .types)) (a .f .frame .«reg_file_start») (prefixOp (now (a .opcodes)) 1) (prefixOp (now (a .opcodes)) 2) i done in
-    subst (Own (length (now (a .code))) i) (sym e) (q .0, q .1, own-offset (now (a .code)) (now (a .opcodes)) (now (a .types)) (a .f .frame .«reg_file_start») i done)
+    let q = past (now (a .code)) (opcodesOf (now (a .opcodes))) (now (a .types)) (a .f .frame .«reg_file_start») _ _ i done in
+    subst (Own (length (now (a .code))) i) (sym e) (q .0, q .1, own-offset (now (a .code)) (opcodesOf (now (a .opcodes))) (now (a .types)) (a .f .frame .«reg_file_start») i done)
 
 -- the flow of its opcode
-flow-is : (c : tie.After-flow-at Inv-loop μ-loop) → c .flow-at .result ≡ flowOf (now (c .before .before .before .before .before .before .before .before .before .before .before .before .before .before .args .opcodes)) (c .before .before .before .before .decode-at .result .instr .opcode)
-flow-is c = c .flow-at .ensures (now (c .before .before .before .before .before .before .before .before .before .before .before .before .before .before .args .opcodes)) (c .before .before .before .before .before .before .before .before .before .before .before .before .before .before .pre .0 .numbers)
+flow-is : (c : tie.After-flow-in Inv-loop μ-loop) → c .flow-in .result ≡ flowOf (now (c .before .before .before .before .before .before .before .before .before .before .before .before .before .before .args .opcodes)) (c .before .before .before .before .decode-at .result .instr .opcode)
+flow-is c = c .flow-in .ensures (now (c .before .before .before .before .before .before .before .before .before .before .before .before .before .before .args .opcodes)) (c .before .before .before .before .before .before .before .before .before .before .before .before .before .before .pre .0 .numbers)
 
 slice-write-starts : tie.Need-slice-write-starts Inv-loop μ-loop
 slice-write-starts c = omega (arith, c .before .before .before .before .before .before .before .before .before .before .loop .inv .kept, c .before .before .before .before .before .before .before .before .before .loop-test .taken)
@@ -108,7 +108,7 @@ loop-again c =
     let l = c .before .before .before .before .before .before .before .before .before .before .loop in
     let x = c .before .before .before .before .before .before .before .decode-at .result in
     let q = progress (c .before .before .before .before) in
-    let t = c .before .before .jump-table .ensures ∙ ap (λ (z : Flow). jumpTable (found (a .f .pool)) z (x .instr)) (flow-is (c .before .before .before)) in
+    let t = c .before .before .jump-table-unchecked .ensures ∙ ap (λ (z : Flow). jumpTable (found (a .f .pool)) z (x .instr)) (flow-is (c .before .before .before)) in
     let k = c .first-refusal .ensures ∙ ap (firstRefusal (l .check)) (c .before .table-check .ensures ∙ ap (λ (z : Table). tableCheck z (x .instr .offset)) t) in
     done-at _ _ _ _ (l .inv) x (is (c .before .before .before .before .before .before .before)) (c .first-refusal .result) (c .before .before .before .before .enum-told2 .given .1) (q .0) (q .1) (q .2) k
 
@@ -120,7 +120,7 @@ returns-3 c =
     let a = c .before .before .before .before .before .before .before .before .args in
     let l = c .before .loop in
     let e : l .i ≡ length (now (a .code)) = omega (arith, l .inv .going .pass .inside, c .loop-test .left) in
-    marking-end _ _ _ _ (l .inv) (decode-end (now (a .code)) (now (a .opcodes)) (now (a .types)) (a .f .frame .«reg_file_start») (prefixOp (now (a .opcodes)) 1) (prefixOp (now (a .opcodes)) 2) (l .i) e)
+    marking-end _ _ _ _ (l .inv) (decode-end (now (a .code)) (opcodesOf (now (a .opcodes))) (now (a .types)) (a .f .frame .«reg_file_start») _ _ (l .i) e)
 
 pub mark-starts-spec : {M : Type 1} → statement M
 mark-starts-spec =
@@ -137,8 +137,8 @@ mark-starts-spec =
     same-length-2
     returns-2
     enum-told-2
-    flow-at-requires
-    jump-table-requires
+    flow-in-requires
+    jump-table-unchecked-requires
     table-check-requires
     first-refusal-requires
     slice-write-starts

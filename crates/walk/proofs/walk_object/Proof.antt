@@ -12,8 +12,8 @@ use Rattle.walk.proofs.walk_object.Tie as tie
 layout-of-requires : tie.Need-layout-of-requires
 layout-of-requires c κs = search needs
 
-header-of-requires : tie.Need-header-of-requires
-header-of-requires c κs = search needs
+header-at-unchecked-requires : tie.Need-header-at-unchecked-requires
+header-at-unchecked-requires c κs = search needs
 
 enum-known-refusal : tie.Need-enum-known-refusal
 enum-known-refusal c = search needs
@@ -39,11 +39,11 @@ walk-source-requires : tie.Need-walk-source-requires
 walk-source-requires c κs =
     let s = c .before .before .before .before .before .before .before .before .before .before .before .before .before .before .before .before .before .before .before in
     let e = c .before .before .function-of .ensures in
-    (object-short (files s) (s .args .object) _ _ (c .before .before .before .before .before .before .h .given .0 .0) (c .before .before .before .before .before .before .before .before .before .layout-of .ensures) (sym (c .before .before .before .before .before .before .before .before .header-of .ensures) ∙ c .before .before .before .before .before .before .h .given .1) (c .before .lent .ensures), ap (λ (x : Function). x .wide) e, ap (λ (x : Function). x .extra) e)
+    (object-short (files s) (s .args .object) _ _ (c .before .before .before .before .before .before .h .given .0 .0) (c .before .before .before .before .before .before .before .before .before .layout-of .ensures) (sym (c .before .before .before .before .before .before .before .before .header-at-unchecked .ensures) ∙ c .before .before .before .before .before .before .h .given .1) (c .before .lent .ensures), ap (λ (x : Function). x .wide) e, ap (λ (x : Function). x .extra) e)
 
 returns : tie.Need-returns
 unfolding walkSearched
-returns c = rw (← c .before .before .before .before .layout-of .ensures, ← c .before .before .before .header-of .ensures, c .before .refusal .given .1) (refl, refl)
+returns c = rw (← c .before .before .before .before .layout-of .ensures, ← c .before .before .before .header-at-unchecked .ensures, c .before .refusal .given .1) (refl, refl)
 
 same-length : tie.Need-same-length
 same-length c = search needs
@@ -51,7 +51,7 @@ same-length c = search needs
 returns-2 : tie.Need-returns-2
 returns-2 c =
     let s = c .before .before .before .before .before .before .before .before .before .before .before .before .before .before .before .before .before .before .before .before .before .before in
-    let e = object-walked (files s) (s .args .object) _ _ (c .before .before .before .before .before .before .before .before .before .h .given .0 .0) (c .before .before .before .before .before .before .before .before .before .before .before .before .layout-of .ensures) (sym (c .before .before .before .before .before .before .before .before .before .before .before .header-of .ensures) ∙ c .before .before .before .before .before .before .before .before .before .h .given .1) (c .before .before .before .before .lent .ensures) (now (s .args .marks)) (c .before .before .before .before .before .function-of .result) _ _ (c .before .before .before .before .before .function-of .ensures) (c .before .before .before .before .before .before .before .pool-of .ensures) in
+    let e = object-walked (files s) (s .args .object) _ _ (c .before .before .before .before .before .before .before .before .before .h .given .0 .0) (c .before .before .before .before .before .before .before .before .before .before .before .before .layout-of .ensures) (sym (c .before .before .before .before .before .before .before .before .before .before .before .header-at-unchecked .ensures) ∙ c .before .before .before .before .before .before .before .before .before .h .given .1) (c .before .before .before .before .lent .ensures) (now (s .args .marks)) (c .before .before .before .before .before .function-of .result) _ _ (c .before .before .before .before .before .function-of .ensures) (c .before .before .before .before .before .before .before .pool-of .ensures) in
     walked-as e (c .before .before .walk-source .ensures)
 
 pub walk-object-spec : {M : Type 1} → statement M
@@ -59,7 +59,7 @@ walk-object-spec =
     tie.close
     (tie.spec
     layout-of-requires
-    header-of-requires
+    header-at-unchecked-requires
     enum-known-refusal
     enum-known-h
     pool-of-requires

@@ -18,6 +18,7 @@ use Rattle.header.specs.mirror.Header.{headerSearched}
 use Rattle.targets.specs.declared.Pool.{Pool}
 use Rattle.decoder.specs.Listed.{Listing}
 use Rattle.flow.specs.Flow.{Numbered}
+use Rattle.flow.specs.Opcodes.{Opcodes, opcodesOf}
 use Rattle.targets.specs.Targets.{found}
 use Rattle.targets.specs.mirror.Search.{poolSearched}
 use Rattle.function.specs.declared.Function.{Function}
@@ -39,7 +40,7 @@ use Rattle.walk.specs.declared.Walked.the-variants as walked
 -- the source that the lent parts make, with the pool's elements by search
 abbrev pub sourceOf : List ℕ → List ℕ → List ℕ → List ℕ → List ℕ → Function → Source
 sourceOf code ops types slots payload f =
-    record { code = code; opcodes = ops; types = types; rfs = f .frame .«reg_file_start»; pooled = found (f .pool); elem = poolSearched slots payload (f .ts) (f .pool) }
+    record { code = code; opcodes = opcodesOf ops; types = types; rfs = f .frame .«reg_file_start»; pooled = found (f .pool); elem = poolSearched slots payload (f .ts) (f .pool) }
 
 abbrev pub graphOf : List ℕ → List ℕ → List ℕ → List ℕ → List ℕ → Function → Graph
 graphOf code ops types slots payload f = searchGraph (sourceOf code ops types slots payload f)
@@ -60,7 +61,7 @@ pub record Ready (ops flows : List ℕ) (f : Function) (g : Graph) (n : ℕ) : T
   pub lawful : Lawful g n
 
 -- one pass over the listing l of n bytes: the checks, and the starts
-pub record Started (ops : List ℕ) (f : Function) (l : Listing) (n : ℕ) (S : List ℕ) (r : Check) : Type 0 where
+pub record Started (ops : Opcodes) (f : Function) (l : Listing) (n : ℕ) (S : List ℕ) (r : Check) : Type 0 where
   pub checked : r ≡ listingCheck ops (found (f .pool)) l
   pub starts : codeCheck (l .outcome) ≡ Ok → StartsAre (map offset (l .instrs)) S
   pub kept : length S ≡ n
@@ -83,7 +84,7 @@ Answered g n M (walked.Refused r) = ⊥
 -- code with a layout and a pool
 abbrev pub sourceBy : List ℕ → List ℕ → List ℕ → List ℕ → List ℕ → Layout → Pool → Source
 sourceBy code ops types slots payload l p =
-    record { code = code; opcodes = ops; types = types; rfs = l .frame .«reg_file_start»; pooled = found p; elem = poolSearched slots payload (l .«tagged_size») p }
+    record { code = code; opcodes = opcodesOf ops; types = types; rfs = l .frame .«reg_file_start»; pooled = found p; elem = poolSearched slots payload (l .«tagged_size») p }
 
 abbrev pub headerFound : Files → Object → HeaderAnswer
 headerFound f o = headerSearched (f .slots) (f .payload) o (layoutOf (f .layout))

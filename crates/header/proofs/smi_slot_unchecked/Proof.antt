@@ -1,7 +1,7 @@
 use Rattle.header.specs.Slots.{smiBy}
 use borrow.Author.Needs.{needs}
-use Rattle.header.proofs.smi_slot_of.Statement.{statement}
-use Rattle.header.proofs.smi_slot_of.Tie as tie
+use Rattle.header.proofs.smi_slot_unchecked.Statement.{statement}
+use Rattle.header.proofs.smi_slot_unchecked.Tie as tie
 
 slot-raw-requires : tie.Need-slot-raw-requires
 slot-raw-requires c κs = search needs
@@ -13,5 +13,5 @@ returns : tie.Need-returns
 unfolding smiBy
 returns c = rw (← c .before .slot-raw .ensures) (c .smi-raw .ensures)
 
-pub smi-slot-of-spec : {M : Type 1} → statement M
-smi-slot-of-spec = tie.close (tie.spec slot-raw-requires smi-raw-requires returns)
+pub smi-slot-unchecked-spec : {M : Type 1} → statement M
+smi-slot-unchecked-spec = tie.close (tie.spec slot-raw-requires smi-raw-requires returns)

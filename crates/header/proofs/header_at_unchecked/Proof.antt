@@ -6,9 +6,9 @@ use mir.Syntax.{w64}
 use Rattle.laws.proofs.Tests.{fell, held}
 use Rattle.header.specs.Header.{headerBy}
 use Rattle.header.proofs.Laws.{length-small}
-use Rattle.header.proofs.header_of.Statement.{statement}
+use Rattle.header.proofs.header_at_unchecked.Statement.{statement}
 use Rattle.header.specs.declared.HeaderAnswer.the-variants as header-answer
-use Rattle.header.proofs.header_of.Tie as tie
+use Rattle.header.proofs.header_at_unchecked.Tie as tie
 
 length-of-requires : tie.Need-length-of-requires
 length-of-requires c κs = search needs
@@ -41,8 +41,8 @@ returns-2 c =
     rw (← c .before .before .before .before .length-of .ensures, held (simp b at (c .before .before .before .length-ok .ensures)) (c .before .before .if1 .left), ← (simp b at (c .before .unsigned-abs .ensures)))
     (ap header-answer.At (c .header-with .ensures))
 
-pub header-of-spec : {M : Type 1} → statement M
-header-of-spec =
+pub header-at-unchecked-spec : {M : Type 1} → statement M
+header-at-unchecked-spec =
     tie.close
     (tie.spec
     length-of-requires

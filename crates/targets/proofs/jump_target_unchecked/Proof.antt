@@ -13,10 +13,10 @@ use Rattle.targets.specs.mirror.Search.{poolSearched}
 use Rattle.targets.proofs.Cases.{not-index, not-smi}
 use Rattle.targets.proofs.Laws.{of-operand, of-pool, no-jump, no-distance, at-distance}
 use borrow.Author.Needs.{needs}
-use Rattle.targets.proofs.jump_target.Statement.{statement}
+use Rattle.targets.proofs.jump_target_unchecked.Statement.{statement}
 use Rattle.targets.specs.declared.Index.the-variants as index
 use Rattle.targets.specs.declared.Number.the-variants as number
-use Rattle.targets.proofs.jump_target.Tie as tie
+use Rattle.targets.proofs.jump_target_unchecked.Tie as tie
 
 -- the pool's elements
 abbrev elems : tie.Start → ℕ → Elem
@@ -81,11 +81,11 @@ returns-5 c = let s = c .before .before .before .before .before .before .before 
     let e : number.Nothing ≡ smiOf (elems s (c .before .before .before .op .given .0 .0)) = rw (c .enum-told2 .given .1) in
     no-distance (elems s) (s .args .flow) (s .args .instr) (o .result) (o .ensures) (e ∙ of-pool (elems s) (s .args .flow .pool) (o .result) (index.Is (c .before .before .before .op .given .0 .0)) (not-false _ (c .before .before .before .before .before .if2 .left)) (rw (c .before .before .before .op .given .1)))
 
-cast-elem-at : tie.Need-cast-elem-at
-cast-elem-at c = search needs
+cast-array-elem-unchecked : tie.Need-cast-array-elem-unchecked
+cast-array-elem-unchecked c = search needs
 
-elem-at-requires : tie.Need-elem-at-requires
-elem-at-requires c κs = search needs
+array-elem-unchecked-requires : tie.Need-array-elem-unchecked-requires
+array-elem-unchecked-requires c κs = search needs
 
 enum-known-d-2 : tie.Need-enum-known-d-2
 enum-known-d-2 c = search needs
@@ -94,7 +94,7 @@ returns-6 : tie.Need-returns-6
 unfolding poolSearched indexOf
 returns-6 c = let s = c .before .before .before .before .before .before .before .before .before .before .before .before .before .before .before in
     let o = c .before .before .before .before .before .before .before .before .before .before .operand-of in
-    let e : number.Nothing ≡ smiOf (elems s (c .before .before .before .before .before .before .op .given .0 .0)) = rw (c .before .before .before .pool .given .1) (not-smi (c .before .elem-at .result) (c .match4 .keys2) ∙ ap smiOf (c .before .elem-at .ensures)) in
+    let e : number.Nothing ≡ smiOf (elems s (c .before .before .before .before .before .before .op .given .0 .0)) = rw (c .before .before .before .pool .given .1) (not-smi (c .before .array-elem-unchecked .result) (c .match4 .keys2) ∙ ap smiOf (c .before .array-elem-unchecked .ensures)) in
     no-distance (elems s) (s .args .flow) (s .args .instr) (o .result) (o .ensures) (e ∙ of-pool (elems s) (s .args .flow .pool) (o .result) (index.Is (c .before .before .before .before .before .before .op .given .0 .0)) (not-false _ (c .before .before .before .before .before .before .before .before .if2 .left)) (rw (c .before .before .before .before .before .before .op .given .1)))
 
 here-requires-2 : tie.Need-here-requires-2
@@ -108,11 +108,11 @@ unfolding poolSearched indexOf
 returns-7 c = let s = c .before .before .before .before .before .before .before .before .before .before .before .before .before .before .before .before .before .before .before in
     let o = c .before .before .before .before .before .before .before .before .before .before .before .before .before .before .operand-of in
     let f : SFits w64 (c .before .before .before .d2 .given .0 .0) = record { sfits = c .before .before .known-told4 .given .0 .1 } in
-    let e : number.Is (c .before .before .before .d2 .given .0 .0) ≡ smiOf (elems s (c .before .before .before .before .before .before .before .before .before .before .op .given .0 .0)) = rw (c .before .before .before .before .before .before .before .pool .given .1) (ap smiOf (sym (c .before .before .before .d2 .given .1) ∙ c .before .before .before .before .before .elem-at .ensures)) in
+    let e : number.Is (c .before .before .before .d2 .given .0 .0) ≡ smiOf (elems s (c .before .before .before .before .before .before .before .before .before .before .op .given .0 .0)) = rw (c .before .before .before .before .before .before .before .pool .given .1) (ap smiOf (sym (c .before .before .before .d2 .given .1) ∙ c .before .before .before .before .before .array-elem-unchecked .ensures)) in
     at-distance (elems s) (s .args .flow) (s .args .instr) (o .result) (o .ensures) (c .before .here2 .result) (c .before .before .before .d2 .given .0 .0) (e ∙ of-pool (elems s) (s .args .flow .pool) (o .result) (index.Is (c .before .before .before .before .before .before .before .before .before .before .op .given .0 .0)) (not-false _ (c .before .before .before .before .before .before .before .before .before .before .before .before .if2 .left)) (rw (c .before .before .before .before .before .before .before .before .before .before .op .given .1))) (c .before .here2 .ensures) (simp (toZ-ofZ f) at (c .target-by2 .ensures))
 
-pub jump-target-spec : {M : Type 1} → statement M
-jump-target-spec =
+pub jump-target-unchecked-spec : {M : Type 1} → statement M
+jump-target-unchecked-spec =
     tie.close
     (tie.spec
     is-jump-requires
@@ -130,8 +130,8 @@ jump-target-spec =
     enum-known-pool
     enum-told-2
     returns-5
-    cast-elem-at
-    elem-at-requires
+    cast-array-elem-unchecked
+    array-elem-unchecked-requires
     enum-known-d-2
     returns-6
     here-requires-2

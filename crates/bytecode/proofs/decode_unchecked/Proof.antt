@@ -4,8 +4,8 @@ use mir.Syntax.{w32}
 use mir.Val.{SFits}
 use Rattle.tables.specs.Layout.{layoutOf}
 use borrow.Author.Needs.{needs}
-use Rattle.bytecode.proofs.decode_with.Statement.{statement}
-use Rattle.bytecode.proofs.decode_with.Tie as tie
+use Rattle.bytecode.proofs.decode_unchecked.Statement.{statement}
+use Rattle.bytecode.proofs.decode_unchecked.Tie as tie
 
 prefix-ops-requires : tie.Need-prefix-ops-requires
 prefix-ops-requires c κs = search needs
@@ -29,8 +29,8 @@ returns c =
     let f : SFits w32 (c .before .before .before .before .before .layout-of .result .frame .«reg_file_start») = record { sfits = c .before .struct-told .given .0 .1 } in
     simp (toZ-ofZ f) at (c .decode-at .ensures) ∙ rw (c .before .before .before .before .before .layout-of .ensures, c .before .before .before .before .before .before .prefix-ops .ensures)
 
-pub decode-with-spec : {M : Type 1} → statement M
-decode-with-spec =
+pub decode-unchecked-spec : {M : Type 1} → statement M
+decode-unchecked-spec =
     tie.close
     (tie.spec
     prefix-ops-requires

@@ -8,8 +8,8 @@ use mir.Val.{SFits}
 use Rattle.targets.specs.Targets.{entryAt, entryBy, smiOf}
 use Rattle.targets.proofs.Cases.{not-smi}
 use Rattle.targets.specs.declared.Number.{Number}
-use Rattle.targets.proofs.entry_at.Statement.{statement}
-use Rattle.targets.proofs.entry_at.Tie as tie
+use Rattle.targets.proofs.jump_entry_unchecked.Statement.{statement}
+use Rattle.targets.proofs.jump_entry_unchecked.Tie as tie
 
 cast-n : tie.Need-cast-n
 cast-n c = search needs
@@ -51,8 +51,8 @@ returns-2 c =
     let t = simp (toZ-ofZ fv) at (c .target-after .ensures) in
     rw (s, r, t)
 
-pub entry-at-spec : {M : Type 1} → statement M
-entry-at-spec =
+pub jump-entry-unchecked-spec : {M : Type 1} → statement M
+jump-entry-unchecked-spec =
     tie.close
     (tie.spec
     cast-n

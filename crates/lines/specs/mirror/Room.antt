@@ -1,5 +1,5 @@
--- A length that no line is longer than, by what is known of its instruction without its text: a buffer that is as long as this for all lines
--- need not be measured.
+-- A length that no line is longer than (`line-room` of proofs/Room.antt), by what is known of its instruction without its text: a buffer that is
+-- as long as this for all lines need not be measured.
 use Prim.Native.Nat.{ℕ, _+_, _-_, _*_, min}
 use Rattle.decoder.specs.declared.Instr.{Instr}
 use Rattle.flow.specs.declared.Kind.{Kind}

@@ -2,8 +2,8 @@ use borrow.Author.Tests.{eq-eqb, ne-eqb}
 use Rattle.laws.proofs.Tests.{fell, held}
 use Rattle.targets.specs.Targets.{jumpTable}
 use borrow.Author.Needs.{needs}
-use Rattle.targets.proofs.jump_table.Statement.{statement}
-use Rattle.targets.proofs.jump_table.Tie as tie
+use Rattle.targets.proofs.jump_table_unchecked.Statement.{statement}
+use Rattle.targets.proofs.jump_table_unchecked.Tie as tie
 
 is-switch-requires : tie.Need-is-switch-requires
 is-switch-requires c κs = search needs
@@ -41,8 +41,8 @@ returns-3 : tie.Need-returns-3
 unfolding jumpTable
 returns-3 c = rw (held (c .before .before .before .before .before .before .before .before .before .before .is-switch .ensures) (c .before .before .before .before .before .before .before .before .before .if1 .left), eq-eqb _ _ (c .before .before .before .before .before .before .before .if2 .left), ← c .before .before .before .before .before .before .operand-of .ensures, ← c .before .before .before .before .before .index-of .ensures, ← c .before .before .before .before .operand-after .ensures, ← c .before .before .before .number-of .ensures, ← c .before .before .operand-after2 .ensures, ← c .before .base-of .ensures) (c .table-by .ensures)
 
-pub jump-table-spec : {M : Type 1} → statement M
-jump-table-spec =
+pub jump-table-unchecked-spec : {M : Type 1} → statement M
+jump-table-unchecked-spec =
     tie.close
     (tie.spec
     is-switch-requires
