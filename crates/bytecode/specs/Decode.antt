@@ -4,10 +4,11 @@ use mathlib.Core.List.{List, []}
 use lib.Dec.{leb}
 use lib.ListN.{length}
 use Rattle.refusal.specs.declared.Check.{Check}
-use Rattle.refusal.specs.declared.Check.the-variants.{Ok, Refused}
-use Rattle.refusal.specs.Check.{orElse, unlessGood}
+use Rattle.refusal.specs.declared.Refusal.{Refusal}
+use Rattle.refusal.specs.Check.{firstRefusal, refuseUnless, guarded}
 use Rattle.tables.specs.Check.{checkTable}
 use Rattle.tables.specs.Layout.{signedValue}
+use Rattle.flow.specs.Opcodes.{opcodesOf}
 use Rattle.decoder.specs.declared.Outcome.{Outcome}
 use Rattle.decoder.specs.declared.Decoded.{Decoded}
 use Rattle.decoder.specs.Head.{blank}
@@ -15,14 +16,14 @@ use Rattle.decoder.specs.Listed.{decodes}
 
 -- row 10: "lent code above 65,536 bytes"
 abbrev pub checkCode : List ℕ → Check
-checkCode code = unlessGood (leb (length code) 65536) 10
+checkCode code = refuseUnless (leb (length code) 65536) 10
 
--- what follows where a check finds nothing
-abbrev pub unlessRefused : Check → Decoded → Decoded
-unlessRefused Ok d = d
-unlessRefused (Refused r) d = record { outcome = Outcome.Refused r; instr = blank }
+-- the instruction is blank where decoding is refused
+abbrev pub refusedBy : Refusal → Decoded
+refusedBy r = record { outcome = Outcome.Refused r; instr = blank }
 
 -- it is lent no name files
 unfoldable pub decodeOne : List ℕ → List ℕ → List ℕ → List ℕ → ℕ → Decoded
 decodeOne ops types layout code start =
-    unlessRefused (orElse (checkTable ops types [] [] layout) (checkCode code)) (decodes code ops types (signedValue layout 13) start)
+    guarded (firstRefusal (checkTable ops types [] [] layout) (checkCode code)) refusedBy
+    (decodes code (opcodesOf ops) types (signedValue layout 13) start)

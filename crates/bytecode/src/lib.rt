@@ -12,21 +12,25 @@ ghost use Rattle.text.specs.Put.{Put};
 ghost use Rattle.text.specs.Texts.{decimal, signedDecimal};
 ghost use Rattle.tables.specs.Texts.{typeName, runtimeName, intrinsicName};
 ghost use Rattle.tables.specs.Layout.{signedValue};
+ghost use Rattle.flow.specs.Opcodes.{opcodesOf};
 ghost use Rattle.decoder.specs.Listed.{decodes};
 ghost use Rattle.bytecode.specs.Texts.{parameterIndex, paramName, regName, listName, operandText, instrName};
 ghost use Rattle.bytecode.specs.Decode.{checkCode, decodeOne};
+ghost use Rattle.bytecode.specs.Numbers.{decodedNumbers};
 
 // The instruction at place start of lent code: rows 1 to 5 and 10, then 20 and 11 to 15; "end" at the code's length.
 pub fn decode(opcodes: &[u8], types: &[u8], layout: &[u8], code: &[u8], start: usize) -> Decoded
-    ensures { λ r. ⌜ r ≡ decodeOne (now (opcodes .entry)) (now (types .entry)) (now (layout .entry)) (now (code .entry)) start ⌝ }
+    ensures { λ r. ⌜ (decodedNumbers start r
+        ≡ decodedNumbers start (decodeOne (now (opcodes .entry)) (now (types .entry)) (now (layout .entry)) (now (code .entry)) start))
+        × (r .instr ≡ (decodeOne (now (opcodes .entry)) (now (types .entry)) (now (layout .entry)) (now (code .entry)) start) .instr) ⌝ }
 {
     let table = tables::check_table(opcodes, types, b"", b"", layout);
-    match refusal::or_else(table, check_code(code)) {
+    match refusal::first_refusal(table, check_code(code)) {
         Check::Refused(refusal) => Decoded {
             outcome: Outcome::Refused(refusal),
             instr: decoder::blank_instr(),
         },
-        Check::Ok => decode_with(opcodes, types, layout, code, start),
+        Check::Ok => decode_unchecked(opcodes, types, layout, code, start),
     }
 }
 
@@ -34,10 +38,10 @@ pub fn decode(opcodes: &[u8], types: &[u8], layout: &[u8], code: &[u8], start: u
 pub fn reg_name(out: &mut [u8], at: usize, frame: Frame, params: i32, index: i32) -> usize
     ensures { λ r. ⌜ Put (now (out .entry)) at (regName frame params index) (now (out .exit)) r ⌝ }
 {
-    if words::same_i32(index, frame.context) {
+    if words::eq_i32(index, frame.context) {
         return text::put_bytes(out, at, b"<context>");
     }
-    if words::same_i32(index, frame.closure) {
+    if words::eq_i32(index, frame.closure) {
         return text::put_bytes(out, at, b"<closure>");
     }
     if words::is_negative(words::wide(index)) {
@@ -63,10 +67,11 @@ pub fn render_operand(
     params: i32,
     op: Operand,
 ) -> usize
-    ensures { λ r. ⌜ Put (now (out .entry)) at (operandText (record { types = now (types .entry); runtime = now (runtime .entry); intrinsic = now (intrinsic .entry) }) frame params op) (now (out .exit)) r ⌝ }
+    ensures { λ r. ⌜ Put (now (out .entry)) at (operandText
+        (record { types = now (types .entry); runtime = now (runtime .entry); intrinsic = now (intrinsic .entry) }) frame params op) (now (out .exit)) r ⌝ }
 {
     match op {
-        Operand::Nothing => text::plus(at, 0),
+        Operand::Nothing => text::saturating_add(at, 0),
         Operand::Reg(i) => reg_name(out, at, frame, params, i),
         Operand::RegList { first, count } => list_name(out, at, frame, params, first, count),
         Operand::Imm(v) => put_imm(out, at, v),
@@ -81,11 +86,11 @@ pub fn render_operand(
 
 // An instruction's name, with its prefix.
 pub fn instr_name(out: &mut [u8], at: usize, opcodes: &[u8], opcode: u8, scale: u8) -> usize
-    ensures { λ r. ⌜ Put (now (out .entry)) at (instrName (now (opcodes .entry)) opcode scale) (now (out .exit)) r ⌝ }
+    ensures { λ r. ⌜ Put (now (out .entry)) at (instrName (opcodesOf (now (opcodes .entry))) opcode scale) (now (out .exit)) r ⌝ }
 {
     let p = text::put_bytes(out, at, tables::op_name(opcodes, opcode));
     if scale == 1 {
-        return text::plus(p, 0);
+        return text::saturating_add(p, 0);
     }
     if scale == 2 {
         text::put_bytes(out, p, b".Wide")
@@ -97,7 +102,7 @@ pub fn instr_name(out: &mut [u8], at: usize, opcodes: &[u8], opcode: u8, scale: 
 pub fn check_code(code: &[u8]) -> Check
     ensures { λ r. ⌜ r ≡ checkCode (now (code .entry)) ⌝ }
 {
-    refusal::unless(code.len() <= 65536, 10)
+    refusal::refuse_unless(code.len() <= 65536, refusal::LONG_CODE)
 }
 
 fn parameter_index(base: ParamBase, first: i32, params: i32, index: i32) -> i32
@@ -112,7 +117,7 @@ fn parameter_index(base: ParamBase, first: i32, params: i32, index: i32) -> i32
 fn param_name(out: &mut [u8], at: usize, p: i32) -> usize
     ensures { λ r. ⌜ Put (now (out .entry)) at (paramName p) (now (out .exit)) r ⌝ }
 {
-    if words::same_i32(p, 0) {
+    if words::eq_i32(p, 0) {
         return text::put_bytes(out, at, b"<this>");
     }
     let n = words::wrapping_sub_i32(p, 1);
@@ -183,14 +188,15 @@ fn put_raw(out: &mut [u8], at: usize, types: &[u8], ty: u8, value: u64) -> usize
 }
 
 // The instruction at place start, by the prefix opcodes and the layout's reg_file_start.
-pub fn decode_with(
+pub fn decode_unchecked(
     opcodes: &[u8],
     types: &[u8],
     layout: &[u8],
     code: &[u8],
     start: usize,
 ) -> Decoded
-    ensures { λ r. ⌜ r ≡ decodes (now (code .entry)) (now (opcodes .entry)) (now (types .entry)) (signedValue (now (layout .entry)) 13) start ⌝ }
+    ensures { λ r. ⌜ r ≡ decodes (now (code .entry)) (opcodesOf (now (opcodes .entry))) (now (types .entry))
+        (signedValue (now (layout .entry)) 13) start ⌝ }
 {
     let prefixes = tables::prefix_ops(opcodes);
     let layout = tables::layout_of(layout);

@@ -14,14 +14,15 @@ use Rattle.lines.specs.Line.{View, lineText}
 use Rattle.targets.specs.Targets.{found}
 use Rattle.function.specs.Files.{Files}
 use Rattle.function.specs.declared.PoolObject.the-variants as object
-use Rattle.jumps.specs.declared.TargetAt.{TargetAt}
-use Rattle.jumps.specs.declared.TargetAt.the-variants as target-at
+use Rattle.jumps.specs.declared.TargetAnswer.{TargetAnswer}
+use Rattle.jumps.specs.declared.TargetAnswer.the-variants as target-answer
 use Rattle.function.specs.Pool.{lentPool, lentElem}
 use Rattle.jumps.specs.Jumps.{targetCall}
 use Rattle.walk.specs.declared.Walked.{Walked}
 use Rattle.walk.specs.declared.Walked.the-variants as walked-as
 use Rattle.walk.specs.Walk.{walkLent}
 use Rattle.sample.specs.Sample.{opcodes, types, layout}
+use Rattle.flow.specs.Opcodes.{opcodesOf}
 
 -- what a row asks of a code: the instruction at a place; the line of its first instruction; that one's target; its walks, over a mark buffer
 -- of so many sevens
@@ -36,7 +37,7 @@ pub data Asked : Type 0 where
 pub data Told : Type 0 where
   decoded : Decoded → Told
   line : Outcome → List ℕ → Told
-  target : TargetAt → Told
+  target : TargetAnswer → Told
   walked : Walked × List ℕ → Told
 
 -- "No runtime names, and no pool unless named"
@@ -47,7 +48,7 @@ files = record { opcodes = opcodes; types = types; runtime = []; intrinsic = [];
 abbrev pub view : List ℕ → View
 view code = record {
   code = code;
-  opcodes = opcodes;
+  opcodes = opcodesOf opcodes;
   names = record { types = types; runtime = []; intrinsic = [] };
   frame = layoutOf layout .frame;
   params = pos 1;
@@ -89,7 +90,7 @@ rows =
     ∷ decoded (refusedAt 13 0)
     ∷ line Outcome.Done (ascii "           @    0 : 0a 05 00 fa 02     CallRuntime [5], r0-r1\n")
     ∷ decoded (refusedAt 15 4)
-    ∷ target (target-at.At 18446744073709551613)
+    ∷ target (target-answer.At 18446744073709551613)
     ∷ walked (walked-as.Leaves 1 0, 1 ∷ 0 ∷ 7 ∷ 7 ∷ [])
     ∷ walked (walked-as.Leaves 2 4, 1 ∷ 0 ∷ 0 ∷ 0 ∷ 1 ∷ 7 ∷ 7 ∷ [])
     ∷ walked (walked-as.Closed, 1 ∷ 0 ∷ 1 ∷ 7 ∷ 7 ∷ [])

@@ -10,7 +10,7 @@ use lib.ListN.{length}
 use Rattle.laws.proofs.Tests.{under?}
 use Rattle.words.proofs.Le.{leAt-past}
 use Rattle.refusal.specs.declared.Check.the-variants.{Ok}
-use Rattle.refusal.specs.Check.{orElse, unlessGood, firstBad}
+use Rattle.refusal.specs.Check.{firstRefusal, refuseUnless, firstBad}
 use Rattle.refusal.proofs.Laws.{or-left, or-right, good-is}
 use Rattle.store.specs.declared.Object.{Object}
 use Rattle.store.specs.Records.{objectOf, objectCount, slotCount}
@@ -47,8 +47,8 @@ module _ (o s p : List ℕ) (ok : checkStore o s p ≡ Ok) where
   unfolding checkStore sizesOk
   whole =
       let sizes = good-is (sizesOk (length o) (length s) (length p)) 6
-      (or-left (unlessGood (sizesOk (length o) (length s) (length p)) 6)
-      (orElse (firstBad 7 (badObject o (slotCount s)) (objectCount o)) (firstBad 7 (badSlot o s p) (slotCount s))) ok)
+      (or-left (refuseUnless (sizesOk (length o) (length s) (length p)) 6)
+      (firstRefusal (firstBad 7 (badObject o (slotCount s)) (objectCount o)) (firstBad 7 (badSlot o s p) (slotCount s))) ok)
       in eqb-true (length o % 16) 0 (first-of _ _ _ _ _ sizes)
 
   -- slots of every object number are in order: those of a number that no object has are none

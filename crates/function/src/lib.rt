@@ -5,21 +5,33 @@ use refusal::Refusal;
 use serializer::SlotAt;
 use store::Object;
 use store::SlotValue;
+use tables::Frame;
 use tables::Layout;
 use targets::Pool;
 use targets::PoolSlots;
 use targets::Table;
 ghost use mathlib.Core.Path.{_≡_};
-ghost use mathlib.Core.List.{[]};
-ghost use Rattle.function.specs.Files.{checkFiles, checkPoolObject, checkLent};
+ghost use Rattle.function.specs.Files.{filesOf, lentFiles, checkFiles, checkPoolObject, checkLent};
 ghost use Rattle.function.specs.Pool.{poolBy};
 ghost use Rattle.function.specs.Code.{tableCheck};
 ghost use Rattle.function.specs.mirror.Pool.{poolFound, lentFound};
+ghost use Rattle.function.specs.mirror.Function.{functionOf};
 
 // The object whose pool lent code uses, if one is lent. Without one no store is lent either.
 pub enum PoolObject {
     Nothing,
     Object(usize),
+}
+
+// What is found once of a function: the tagged size, its pool, the frame, the parameter count, the prefix opcodes. Lent code has no header:
+// its parameter count is 0, and no walk or target reads it.
+pub struct Function {
+    pub ts: u8,
+    pub pool: Pool,
+    pub frame: Frame,
+    pub params: i32,
+    pub wide: usize,
+    pub extra: usize,
 }
 
 // Rows 1 to 8, of an object that is to be a BytecodeArray.
@@ -34,14 +46,16 @@ pub fn check_files(
     payload: &[u8],
     object: usize,
 ) -> Check
-    ensures { λ r. ⌜ r ≡ checkFiles (record { opcodes = now (opcodes .entry); types = now (types .entry); runtime = now (runtime .entry); intrinsic = now (intrinsic .entry); layout = now (layout .entry); objects = now (objects .entry); slots = now (slots .entry); payload = now (payload .entry) }) object ⌝ }
+    ensures { λ r. ⌜ r ≡ checkFiles
+        (filesOf (now (opcodes .entry)) (now (types .entry)) (now (runtime .entry)) (now (intrinsic .entry)) (now (layout .entry))
+        (now (objects .entry)) (now (slots .entry)) (now (payload .entry))) object ⌝ }
 {
     let table = tables::check_table(opcodes, types, runtime, intrinsic, layout);
-    let files = refusal::or_else(
+    let files = refusal::first_refusal(
         store::check_store(objects, slots, payload),
         store::check_code_object(objects, object),
     );
-    refusal::or_else(table, files)
+    refusal::first_refusal(table, files)
 }
 
 // Rows 1 to 8 and 10, of lent code.
@@ -55,12 +69,14 @@ pub fn check_lent(
     payload: &[u8],
     object: PoolObject,
 ) -> Check
-    ensures { λ r. ⌜ r ≡ checkLent (record { opcodes = now (opcodes .entry); types = now (types .entry); runtime = []; intrinsic = []; layout = now (layout .entry); objects = now (objects .entry); slots = now (slots .entry); payload = now (payload .entry) }) object (now (code .entry)) ⌝ }
+    ensures { λ r. ⌜ r ≡ checkLent
+        (lentFiles (now (opcodes .entry)) (now (types .entry)) (now (layout .entry)) (now (objects .entry)) (now (slots .entry)) (now (payload .entry)))
+        object (now (code .entry)) ⌝ }
 {
     let table = tables::check_table(opcodes, types, b"", b"", layout);
     let owned = check_pool_object(objects, slots, payload, object);
-    let rest = refusal::or_else(owned, bytecode::check_code(code));
-    refusal::or_else(table, rest)
+    let rest = refusal::first_refusal(owned, bytecode::check_code(code));
+    refusal::first_refusal(table, rest)
 }
 
 // Rows 6 to 8, where an object is lent.
@@ -69,10 +85,26 @@ fn check_pool_object(objects: &[u8], slots: &[u8], payload: &[u8], object: PoolO
 {
     match object {
         PoolObject::Nothing => Check::Ok,
-        PoolObject::Object(n) => refusal::or_else(
+        PoolObject::Object(n) => refusal::first_refusal(
             store::check_store(objects, slots, payload),
             store::check_object(objects, n),
         ),
+    }
+}
+
+// What is found once of a function, of its table, layout, pool and parameter count.
+pub fn function_of(opcodes: &[u8], shape: Layout, pool: Pool, params: i32) -> Function
+    ensures { λ r. ⌜ r ≡ functionOf (now (opcodes .entry)) shape pool params ⌝ }
+{
+    let prefixes = tables::prefix_ops(opcodes);
+    let frame = shape.frame;
+    Function {
+        ts: shape.tagged_size,
+        pool,
+        frame,
+        params,
+        wide: prefixes.wide as usize,
+        extra: prefixes.extra_wide as usize,
     }
 }
 
@@ -83,7 +115,7 @@ pub fn pool_of(objects: &[u8], slots: &[u8], shape: Layout, object: Object) -> P
     let slot = shape.pool_slot as u64;
     pool_by(
         objects,
-        serializer::find_slot(slots, object.first, object.count, slot),
+        serializer::slot_at_unchecked(slots, object.first, object.count, slot),
     )
 }
 
@@ -122,7 +154,7 @@ pub fn table_check(table: Table, at: usize) -> Check
         Table::Nothing => Check::Ok,
         Table::At(_) => Check::Ok,
         Table::Refused => Check::Refused(Refusal {
-            number: 16,
+            number: refusal::BAD_SWITCH,
             place: at,
         }),
     }

@@ -19,14 +19,14 @@ use Rattle.header.specs.declared.Header.{Header}
 use Rattle.header.proofs.Laws.{length-small}
 use Rattle.header.proofs.Searched.{code-checked}
 use Rattle.serializer.specs.declared.RawAt.the-variants as raw-at
-use Rattle.header.specs.declared.HeaderAt.the-variants as header-at
+use Rattle.header.specs.declared.HeaderAnswer.the-variants as header-answer
 
 -- code inside a payload
 pub record Inside (p : List ℕ) (h : Header) : Type 0 where
   pub within : h .«code_at» + h .«code_len» ≤ length p
   pub short : h .«code_len» ≤ 65536
 
-pub code-inside : (o s p : List ℕ) (k : ℕ) (l : Layout) {h : Header} → checkCode o s p k ≡ Ok → headerOf s p (objectOf o k) l ≡ header-at.At h → Inside p h
+pub code-inside : (o s p : List ℕ) (k : ℕ) (l : Layout) {h : Header} → checkCode o s p k ≡ Ok → headerOf s p (objectOf o k) l ≡ header-answer.At h → Inside p h
 unfolding headerBy headerWith
 code-inside o s p k l {h} ok e = go (lengthOk z) refl e
   where
@@ -44,7 +44,7 @@ code-inside o s p k l {h} ok e = go (lengthOk z) refl e
     found (raw-at.At a) f m = (raw-inside o s p k (l .«tagged_size») (rt (l .«header_size»)) (natAbs z) (code-checked o s p k ok) f, m)
     found raw-at.Nothing f m = (omega arith, omega arith)
 
-    go : (t : Bool) → lengthOk z ≡ t → cond t (header-at.At (headerWith p raw rt l (natAbs z))) (header-at.Refused (refusalAt 9 0)) ≡ header-at.At h → Inside p h
+    go : (t : Bool) → lengthOk z ≡ t → cond t (header-answer.At (headerWith p raw rt l (natAbs z))) (header-answer.Refused (refusalAt 9 0)) ≡ header-answer.At h → Inside p h
     go true f g =
         let same : headerWith p raw rt l (natAbs z) ≡ h = cc in
         let both = found (raw (rt (l .«header_size»)) (natAbs z)) refl (length-small z f) in

@@ -24,8 +24,8 @@ use Rattle.tables.specs.declared.Field.{Field}
 use Rattle.tables.specs.declared.Field.the-variants as field
 use Rattle.tables.specs.declared.Layout.{Layout}
 use Rattle.header.specs.declared.Header.{Header}
-use Rattle.header.specs.declared.HeaderAt.{HeaderAt}
-use Rattle.header.specs.declared.HeaderAt.the-variants as header-at
+use Rattle.header.specs.declared.HeaderAnswer.{HeaderAnswer}
+use Rattle.header.specs.declared.HeaderAnswer.the-variants as header-answer
 
 -- 01: absent values take "the tagged size for 6 (not passed through `bca_rt_off`)"
 abbrev pub lengthOff : (ℕ → ℕ) → ℕ → Field → ℕ
@@ -78,14 +78,14 @@ headerWith payload raw rt l n = record {
   «code_len» = codeAt (raw (rt (l .«header_size»)) n) n .len;
 }
 
-unfoldable pub headerBy : List ℕ → (ℕ → ℕ → RawAt) → (ℕ → ℕ) → Layout → HeaderAt
+unfoldable pub headerBy : List ℕ → (ℕ → ℕ → RawAt) → (ℕ → ℕ) → Layout → HeaderAnswer
 headerBy payload raw rt l =
     let z = lengthBy payload raw rt l in
-    cond (lengthOk z) (header-at.At (headerWith payload raw rt l (natAbs z))) (header-at.Refused (refusalAt 9 0))
+    cond (lengthOk z) (header-answer.At (headerWith payload raw rt l (natAbs z))) (header-answer.Refused (refusalAt 9 0))
 
 -- bca_rt_off for an object's slots s and a layout
 abbrev pub rtFor : List ℕ → Object → Layout → ℕ → ℕ
 rtFor s o l = rtOff s (o .first) (o .count) (l .«tagged_size») (l .unit)
 
-abbrev pub headerOf : List ℕ → List ℕ → Object → Layout → HeaderAt
+abbrev pub headerOf : List ℕ → List ℕ → Object → Layout → HeaderAnswer
 headerOf s payload o l = headerBy payload (rawAt s (o .first) (o .count) (l .«tagged_size»)) (rtFor s o l) l

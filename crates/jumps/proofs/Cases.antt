@@ -14,7 +14,7 @@ use Rattle.serializer.specs.Down.{down}
 use Rattle.serializer.specs.Slots.{slotAt}
 use Rattle.serializer.specs.Element.{elemAt}
 use Rattle.tables.specs.Names.{nameOk, nameAt, isNamed}
-use Rattle.tables.specs.Records.{width, prefixOp, typeNames, nameFits, sizeGood, sizeFits, opcodeOk}
+use Rattle.tables.specs.Records.{width, firstMarked, typeNames, nameFits, sizeGood, sizeFits, opcodeOk}
 use Rattle.tables.specs.Layout.{ranges, rangeOf, layoutOf}
 use Rattle.tables.specs.Check.{wholeRecords, checkTable}
 use Rattle.operand.specs.Operand.{kinds, kindOf, ofKind, interpret, isList}
@@ -27,8 +27,8 @@ use Rattle.function.specs.Files.{Files}
 use Rattle.function.specs.Pool.{poolBy}
 use Rattle.jumps.specs.Jumps.{targetOf, targetCall, tableOf, tableCall, entryCall}
 use Rattle.function.specs.declared.PoolObject.the-variants as object
-use Rattle.jumps.specs.declared.TargetAt.the-variants as target-at
-use Rattle.jumps.specs.declared.TableAt.the-variants as table-at
+use Rattle.jumps.specs.declared.TargetAnswer.the-variants as target-answer
+use Rattle.jumps.specs.declared.TableAnswer.the-variants as table-answer
 use Rattle.jumps.specs.declared.EntryAnswer.the-variants as entry-answer
 
 -- an object of kind 0, by its first slot and their count
@@ -61,11 +61,11 @@ pub target-cases :
     ∷ targetCall (files opcodes) (object.Object 0) (0x08 ∷ 0x00 ∷ []) 0
     ∷ targetCall (files opcodes) (object.Object 2) (0x08 ∷ 0x00 ∷ []) 0
     ∷ [])
-    ≡ (target-at.At 18446744073709551613 ∷ target-at.End ∷ target-at.Refused (refusalAt 20 2) ∷ target-at.Nothing ∷ target-at.At 4
-    ∷ target-at.Refused (refusalAt 8 0) ∷ [])
+    ≡ (target-answer.At 18446744073709551613 ∷ target-answer.End ∷ target-answer.Refused (refusalAt 20 2) ∷ target-answer.Nothing ∷ target-answer.At 4
+    ∷ target-answer.Refused (refusalAt 8 0) ∷ [])
 unfolding targetCall targetOf opcodes opcode typed types padded four fours layout checkTable wholeRecords within firstFrom nameOk opcodeOk sizeFits sizeGood nameFits isNamed typeNames
     ranges rangeOf leAt checkStore sizesOk objectOk slotOk valueOk fieldsOk falls fallsIn objectOf slotOf layoutOf poolBy slotAt poolElem elemAt down smiBytes decodeAt headAt
-    prefixOp readParts partsFrom width isList kinds kindOf ofKind interpret modulo wrap32 signed nameAt flowNames flows flowNumber flowBy operandOf indexOf
+    firstMarked readParts partsFrom width isList kinds kindOf ofKind interpret modulo wrap32 signed nameAt flowNames flows flowNumber flowBy operandOf indexOf
     numberOf distanceBy jumpTarget
 target-cases = refl
 
@@ -77,10 +77,10 @@ pub table-cases :
     (tableCall (files opcodes) (object.Object 0) switch 0
     ∷ tableCall (files opcodes) object.Nothing switch 0
     ∷ [])
-    ≡ (table-at.At (record { start = 0; count = 2; base = pos 5 }) ∷ table-at.Nothing ∷ [])
+    ≡ (table-answer.At (record { start = 0; count = 2; base = pos 5 }) ∷ table-answer.Nothing ∷ [])
 unfolding tableCall tableOf opcodes opcode typed types padded four fours layout checkTable wholeRecords within firstFrom nameOk opcodeOk sizeFits sizeGood nameFits isNamed typeNames
     ranges rangeOf leAt checkStore sizesOk objectOk slotOk valueOk fieldsOk falls fallsIn objectOf slotOf layoutOf poolBy slotAt decodeAt headAt
-    prefixOp readParts partsFrom width isList kinds kindOf ofKind interpret modulo wrap32 signed nameAt flowNames flows flowNumber flowBy operandOf indexOf
+    firstMarked readParts partsFrom width isList kinds kindOf ofKind interpret modulo wrap32 signed nameAt flowNames flows flowNumber flowBy operandOf indexOf
     numberOf jumpTable tableBy sizedBy
 table-cases = refl
 
@@ -96,7 +96,7 @@ pub entry-cases :
     ≡ (entry-answer.Shown (pos 5) 4 ∷ entry-answer.Skipped ∷ entry-answer.Beyond ∷ entry-answer.Nothing ∷ entry-answer.Nothing ∷ entry-answer.End ∷ [])
 unfolding entryCall tableCall tableOf opcodes opcode typed types padded four fours layout checkTable wholeRecords within firstFrom nameOk opcodeOk sizeFits sizeGood nameFits isNamed typeNames
     ranges rangeOf leAt checkStore sizesOk objectOk slotOk valueOk fieldsOk falls fallsIn objectOf slotOf layoutOf poolBy slotAt poolElem elemAt down smiBytes decodeAt headAt
-    prefixOp readParts partsFrom width isList kinds kindOf ofKind interpret modulo wrap32 signed nameAt flowNames flows flowNumber flowBy operandOf indexOf
+    firstMarked readParts partsFrom width isList kinds kindOf ofKind interpret modulo wrap32 signed nameAt flowNames flows flowNumber flowBy operandOf indexOf
     numberOf jumpTable tableBy sizedBy entryAt
 entry-cases = refl
 
@@ -107,15 +107,15 @@ signedSwitch = opcode "SwitchOnSmiNoFeedback" 0 (10 ∷ 9 ∷ 9 ∷ [])
 abbrev twoSwitches : List ℕ
 twoSwitches = 0x00 ∷ 0x00 ∷ 0x01 ∷ 0x05 ∷ 0x00 ∷ 0x00 ∷ 0xff ∷ 0x05 ∷ []
 
-pub sixteen-case : tableCall (files signedSwitch) (object.Object 0) twoSwitches 4 ≡ table-at.Refused (refusalAt 16 4)
+pub sixteen-case : tableCall (files signedSwitch) (object.Object 0) twoSwitches 4 ≡ table-answer.Refused (refusalAt 16 4)
 unfolding tableCall tableOf opcode typed types padded four fours layout checkTable wholeRecords within firstFrom nameOk opcodeOk sizeFits sizeGood nameFits isNamed typeNames
     ranges rangeOf leAt checkStore sizesOk objectOk slotOk valueOk fieldsOk falls fallsIn objectOf slotOf layoutOf poolBy slotAt decodeAt headAt
-    prefixOp readParts partsFrom width isList kinds kindOf ofKind interpret modulo wrap32 signed nameAt flowNames flows flowNumber flowBy operandOf indexOf
+    firstMarked readParts partsFrom width isList kinds kindOf ofKind interpret modulo wrap32 signed nameAt flowNames flows flowNumber flowBy operandOf indexOf
     numberOf jumpTable tableBy sizedBy
 sixteen-case = refl
 
-pub sixteen-target : targetCall (files signedSwitch) (object.Object 0) twoSwitches 4 ≡ target-at.Nothing
+pub sixteen-target : targetCall (files signedSwitch) (object.Object 0) twoSwitches 4 ≡ target-answer.Nothing
 unfolding targetCall targetOf opcode typed types padded four fours layout checkTable wholeRecords within firstFrom nameOk opcodeOk sizeFits sizeGood nameFits isNamed typeNames
     ranges rangeOf leAt checkStore sizesOk objectOk slotOk valueOk fieldsOk falls fallsIn objectOf slotOf layoutOf poolBy slotAt decodeAt headAt
-    prefixOp readParts partsFrom width isList kinds kindOf ofKind interpret modulo wrap32 signed nameAt flowNames flows flowNumber flowBy jumpTarget
+    firstMarked readParts partsFrom width isList kinds kindOf ofKind interpret modulo wrap32 signed nameAt flowNames flows flowNumber flowBy jumpTarget
 sixteen-target = refl

@@ -1,7 +1,6 @@
 // The target of a jump, and the table of a switch and its entries, at a place of lent code, with 01's checks of all that is lent.
 use decoder::Decoded;
 use decoder::Outcome;
-use flow::Flow;
 use function::PoolObject;
 use refusal::Check;
 use refusal::Refusal;
@@ -11,14 +10,15 @@ use targets::Pool;
 use targets::Table;
 use targets::Target;
 ghost use mathlib.Core.Path.{_≡_};
-ghost use mathlib.Core.List.{[]};
-ghost use Rattle.flow.specs.Flow.{flowOf};
+ghost use Rattle.flow.specs.Opcodes.{opcodesOf};
 ghost use Rattle.targets.specs.Targets.{found};
 ghost use Rattle.targets.specs.mirror.Search.{poolSearched};
+ghost use Rattle.function.specs.Files.{lentFiles};
+ghost use Rattle.jumps.specs.Numbers.{targetNumbers, tableNumbers, entryNumbers};
 ghost use Rattle.jumps.specs.Jumps.{targetTold, targetOf, targetCall, tableTold, tableOf, tableCall, entryTold, entryIn, entryOf, entryCall};
 
 // Where a jump goes. End is the code's end; Nothing is no target.
-pub enum TargetAt {
+pub enum TargetAnswer {
     At(u64),
     Nothing,
     End,
@@ -26,7 +26,7 @@ pub enum TargetAt {
 }
 
 // The entries of a switch. End is the code's end; Nothing is no table.
-pub enum TableAt {
+pub enum TableAnswer {
     At(Entries),
     Nothing,
     End,
@@ -55,8 +55,10 @@ pub fn jump_target(
     slots: &[u8],
     payload: &[u8],
     object: PoolObject,
-) -> TargetAt
-    ensures { λ r. ⌜ r ≡ targetCall (record { opcodes = now (opcodes .entry); types = now (types .entry); runtime = []; intrinsic = []; layout = now (layout .entry); objects = now (objects .entry); slots = now (slots .entry); payload = now (payload .entry) }) object (now (code .entry)) at ⌝ }
+) -> TargetAnswer
+    ensures { λ r. ⌜ targetNumbers at r ≡ targetNumbers at (targetCall
+        (lentFiles (now (opcodes .entry)) (now (types .entry)) (now (layout .entry)) (now (objects .entry)) (now (slots .entry)) (now (payload .entry)))
+        object (now (code .entry)) at) ⌝ }
 {
     match function::check_lent(
         code,
@@ -68,11 +70,11 @@ pub fn jump_target(
         payload,
         object,
     ) {
-        Check::Refused(refusal) => TargetAt::Refused(refusal),
+        Check::Refused(refusal) => TargetAnswer::Refused(refusal),
         Check::Ok => {
             let shape = tables::layout_of(layout);
             let pool = function::lent_pool(objects, slots, shape, object);
-            let d = bytecode::decode_with(opcodes, types, layout, code, at);
+            let d = bytecode::decode_unchecked(opcodes, types, layout, code, at);
             target_of(opcodes, slots, payload, shape.tagged_size, pool, d)
         }
     }
@@ -89,8 +91,10 @@ pub fn jump_table(
     slots: &[u8],
     payload: &[u8],
     object: PoolObject,
-) -> TableAt
-    ensures { λ r. ⌜ r ≡ tableCall (record { opcodes = now (opcodes .entry); types = now (types .entry); runtime = []; intrinsic = []; layout = now (layout .entry); objects = now (objects .entry); slots = now (slots .entry); payload = now (payload .entry) }) object (now (code .entry)) at ⌝ }
+) -> TableAnswer
+    ensures { λ r. ⌜ tableNumbers at r ≡ tableNumbers at (tableCall
+        (lentFiles (now (opcodes .entry)) (now (types .entry)) (now (layout .entry)) (now (objects .entry)) (now (slots .entry)) (now (payload .entry)))
+        object (now (code .entry)) at) ⌝ }
 {
     match function::check_lent(
         code,
@@ -102,11 +106,11 @@ pub fn jump_table(
         payload,
         object,
     ) {
-        Check::Refused(refusal) => TableAt::Refused(refusal),
+        Check::Refused(refusal) => TableAnswer::Refused(refusal),
         Check::Ok => {
             let shape = tables::layout_of(layout);
             let pool = function::lent_pool(objects, slots, shape, object);
-            let d = bytecode::decode_with(opcodes, types, layout, code, at);
+            let d = bytecode::decode_unchecked(opcodes, types, layout, code, at);
             table_of(opcodes, pool, d, at)
         }
     }
@@ -125,7 +129,9 @@ pub fn jump_entry(
     object: PoolObject,
     k: usize,
 ) -> EntryAnswer
-    ensures { λ r. ⌜ r ≡ entryCall (record { opcodes = now (opcodes .entry); types = now (types .entry); runtime = []; intrinsic = []; layout = now (layout .entry); objects = now (objects .entry); slots = now (slots .entry); payload = now (payload .entry) }) object (now (code .entry)) at k ⌝ }
+    ensures { λ r. ⌜ entryNumbers at r ≡ entryNumbers at (entryCall
+        (lentFiles (now (opcodes .entry)) (now (types .entry)) (now (layout .entry)) (now (objects .entry)) (now (slots .entry)) (now (payload .entry)))
+        object (now (code .entry)) at k) ⌝ }
 {
     match function::check_lent(
         code,
@@ -141,21 +147,13 @@ pub fn jump_entry(
         Check::Ok => {
             let shape = tables::layout_of(layout);
             let pool = function::lent_pool(objects, slots, shape, object);
-            let d = bytecode::decode_with(opcodes, types, layout, code, at);
+            let d = bytecode::decode_unchecked(opcodes, types, layout, code, at);
             let table = table_of(opcodes, pool, d, at);
             let instr = d.instr;
             let from = targets::here(instr);
             entry_of(slots, payload, shape.tagged_size, pool, from, table, k)
         }
     }
-}
-
-// What an opcode does.
-fn flow_of(opcodes: &[u8], opcode: u8) -> Flow
-    ensures { λ r. ⌜ r ≡ flowOf (now (opcodes .entry)) opcode ⌝ }
-{
-    let op = opcode as usize;
-    flow::flow_by(flow::flow_number(opcodes, op * 64))
 }
 
 // The target of what was decoded.
@@ -166,33 +164,33 @@ fn target_of(
     ts: u8,
     pool: Pool,
     d: Decoded,
-) -> TargetAt
-    ensures { λ r. ⌜ r ≡ targetOf (now (opcodes .entry)) (poolSearched (now (slots .entry)) (now (payload .entry)) ts pool) d ⌝ }
+) -> TargetAnswer
+    ensures { λ r. ⌜ r ≡ targetOf (opcodesOf (now (opcodes .entry))) (poolSearched (now (slots .entry)) (now (payload .entry)) ts pool) d ⌝ }
 {
     let outcome = d.outcome;
     let instr = d.instr;
     match outcome {
-        Outcome::End => TargetAt::End,
-        Outcome::Refused(refusal) => TargetAt::Refused(refusal),
+        Outcome::End => TargetAnswer::End,
+        Outcome::Refused(refusal) => TargetAnswer::Refused(refusal),
         Outcome::Done => {
-            let flow = flow_of(opcodes, instr.opcode);
-            target_told(targets::jump_target(slots, payload, ts, pool, flow, instr))
+            let flow = flow::flow_of(opcodes, instr.opcode);
+            target_told(targets::jump_target_unchecked(slots, payload, ts, pool, flow, instr))
         }
     }
 }
 
 // The table of what was decoded at a place.
-fn table_of(opcodes: &[u8], pool: Pool, d: Decoded, at: usize) -> TableAt
-    ensures { λ r. ⌜ r ≡ tableOf (now (opcodes .entry)) (found pool) d at ⌝ }
+fn table_of(opcodes: &[u8], pool: Pool, d: Decoded, at: usize) -> TableAnswer
+    ensures { λ r. ⌜ r ≡ tableOf (opcodesOf (now (opcodes .entry))) (found pool) d at ⌝ }
 {
     let outcome = d.outcome;
     let instr = d.instr;
     match outcome {
-        Outcome::End => TableAt::End,
-        Outcome::Refused(refusal) => TableAt::Refused(refusal),
+        Outcome::End => TableAnswer::End,
+        Outcome::Refused(refusal) => TableAnswer::Refused(refusal),
         Outcome::Done => {
-            let flow = flow_of(opcodes, instr.opcode);
-            table_told(targets::jump_table(pool, flow, instr), at)
+            let flow = flow::flow_of(opcodes, instr.opcode);
+            table_told(targets::jump_table_unchecked(pool, flow, instr), at)
         }
     }
 }
@@ -204,16 +202,16 @@ fn entry_of(
     ts: u8,
     pool: Pool,
     from: u64,
-    table: TableAt,
+    table: TableAnswer,
     k: usize,
 ) -> EntryAnswer
     ensures { λ r. ⌜ r ≡ entryOf (poolSearched (now (slots .entry)) (now (payload .entry)) ts pool) from table k ⌝ }
 {
     match table {
-        TableAt::At(e) => entry_in(slots, payload, ts, pool, from, e, k),
-        TableAt::Nothing => EntryAnswer::Nothing,
-        TableAt::End => EntryAnswer::End,
-        TableAt::Refused(refusal) => EntryAnswer::Refused(refusal),
+        TableAnswer::At(e) => entry_in(slots, payload, ts, pool, from, e, k),
+        TableAnswer::Nothing => EntryAnswer::Nothing,
+        TableAnswer::End => EntryAnswer::End,
+        TableAnswer::Refused(refusal) => EntryAnswer::Refused(refusal),
     }
 }
 
@@ -229,7 +227,7 @@ fn entry_in(
     ensures { λ r. ⌜ r ≡ entryIn (poolSearched (now (slots .entry)) (now (payload .entry)) ts pool) from e k ⌝ }
 {
     if k < e.count as usize {
-        entry_told(targets::entry_at(slots, payload, ts, pool, from, e, k as u16))
+        entry_told(targets::jump_entry_unchecked(slots, payload, ts, pool, from, e, k as u16))
     } else {
         EntryAnswer::Beyond
     }
@@ -244,24 +242,24 @@ fn entry_told(entry: Entry) -> EntryAnswer
     }
 }
 
-fn target_told(target: Target) -> TargetAt
+fn target_told(target: Target) -> TargetAnswer
     ensures { λ r. ⌜ r ≡ targetTold target ⌝ }
 {
     match target {
-        Target::At(t) => TargetAt::At(t),
-        Target::Nothing => TargetAt::Nothing,
+        Target::At(t) => TargetAnswer::At(t),
+        Target::Nothing => TargetAnswer::Nothing,
     }
 }
 
 // Number 16 at the instruction's start.
-fn table_told(table: Table, at: usize) -> TableAt
+fn table_told(table: Table, at: usize) -> TableAnswer
     ensures { λ r. ⌜ r ≡ tableTold table at ⌝ }
 {
     match table {
-        Table::Nothing => TableAt::Nothing,
-        Table::At(e) => TableAt::At(e),
-        Table::Refused => TableAt::Refused(Refusal {
-            number: 16,
+        Table::Nothing => TableAnswer::Nothing,
+        Table::At(e) => TableAnswer::At(e),
+        Table::Refused => TableAnswer::Refused(Refusal {
+            number: refusal::BAD_SWITCH,
             place: at,
         }),
     }

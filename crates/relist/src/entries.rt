@@ -1,8 +1,8 @@
 // Targets and entries of an instruction of lent code, with the pool of an object or without a pool.
 use function::PoolObject;
 use jumps::EntryAnswer;
-use jumps::TableAt;
-use jumps::TargetAt;
+use jumps::TableAnswer;
+use jumps::TargetAnswer;
 use targets::Entries;
 use targets::Entry;
 use targets::Pool;
@@ -37,10 +37,10 @@ pub fn jump_target(bytes: &[u8], files: Files, call: &[u8]) -> bool {
         pool_object(call),
     );
     match target {
-        TargetAt::At(n) => said::is_number(said, n),
-        TargetAt::Nothing => said::is_nothing(said),
-        TargetAt::End => said::is_end(said),
-        TargetAt::Refused(refusal) => said::is_refused(said, refusal),
+        TargetAnswer::At(n) => said::is_number(said, n),
+        TargetAnswer::Nothing => said::is_nothing(said),
+        TargetAnswer::End => said::is_end(said),
+        TargetAnswer::Refused(refusal) => said::is_refused(said, refusal),
     }
 }
 
@@ -59,10 +59,10 @@ pub fn jump_table(bytes: &[u8], files: Files, call: &[u8]) -> bool {
         pool_object(call),
     );
     match table {
-        TableAt::At(entries) => are_entries(bytes, files, call, entries),
-        TableAt::Nothing => said::is_nothing(said),
-        TableAt::End => said::is_end(said),
-        TableAt::Refused(refusal) => said::is_refused(said, refusal),
+        TableAnswer::At(entries) => are_entries(bytes, files, call, entries),
+        TableAnswer::Nothing => said::is_nothing(said),
+        TableAnswer::End => said::is_end(said),
+        TableAnswer::Refused(refusal) => said::is_refused(said, refusal),
     }
 }
 
@@ -128,7 +128,7 @@ fn are_shown(
     let mut seen = none_seen(said);
     let mut k: u16 = 0;
     while k < entries.count {
-        let entry = targets::entry_at(slots, payload, ts, pool, here, entries, k);
+        let entry = targets::jump_entry_unchecked(slots, payload, ts, pool, here, entries, k);
         seen = seen_after(said, seen, entry);
         k += 1;
     }
@@ -149,7 +149,7 @@ fn seen_after(said: &[u8], seen: Seen, entry: Entry) -> Seen {
         Entry::Shown { case, target } => {
             let same = said::are_2(said, seen.at, words::bits64(words::wide(case)), target);
             Seen {
-                at: text::plus(seen.at, 16),
+                at: text::saturating_add(seen.at, 16),
                 shown: std::num::wrapping_add_u64(seen.shown, 1),
                 same: seen.same && same,
             }

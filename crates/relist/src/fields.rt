@@ -1,6 +1,6 @@
 // Numbers in slots, and headers.
 use header::Header;
-use header::HeaderAt;
+use header::HeaderAnswer;
 use header::Num;
 use header::NumAnswer;
 use header::SmiAnswer;
@@ -67,8 +67,8 @@ pub fn header(bytes: &[u8], files: Files, call: &[u8]) -> bool {
         words::u64_at(call, 0) as usize,
     );
     match answer {
-        HeaderAt::At(header) => is_header(behind(call, 8), header),
-        HeaderAt::Refused(refusal) => said::is_refused(behind(call, 8), refusal),
+        HeaderAnswer::At(header) => is_header(behind(call, 8), header),
+        HeaderAnswer::Refused(refusal) => said::is_refused(behind(call, 8), refusal),
     }
 }
 

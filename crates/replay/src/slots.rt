@@ -64,7 +64,7 @@ fn are_records(slots: &[u8], records: &[u8]) -> bool {
             return false;
         }
         at = step.at;
-        from = text::plus(from, 48);
+        from = text::saturating_add(from, 48);
         k += 1;
     }
     is_end(slots, at) && from == records.len()
@@ -91,7 +91,13 @@ fn is_record(records: &[u8], at: usize, slot: Slot) -> bool {
     let value = slot.value;
     let t = value_told(value);
     said::are_3(records, at, slot.index as u64, t.kind, t.number)
-        && said::are_3(records, text::plus(at, 24), t.len, t.count, t.inner)
+        && said::are_3(
+            records,
+            text::saturating_add(at, 24),
+            t.len,
+            t.count,
+            t.inner,
+        )
 }
 
 // Kind, number or offset, length, repeat count, inner kind.

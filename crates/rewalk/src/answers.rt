@@ -28,7 +28,7 @@ fn is_left(said: &[u8], steps: u64, offset: u64) -> bool {
 
 // The first n marks are the bits, the bits behind them are 0, and the other marks are kept.
 fn are_marks(bits: &[u8], marks: &[u8], n: usize) -> bool {
-    if marks.len() < n || bits.len() != text::plus(n, 7) / 8 {
+    if marks.len() < n || bits.len() != text::saturating_add(n, 7) / 8 {
         return false;
     }
     let part = Part { at: 0, len: n };
@@ -43,7 +43,7 @@ fn are_bits(bits: &[u8], marks: &[u8]) -> bool {
         if !are_8(bits[i], behind(marks, at)) {
             return false;
         }
-        at = text::plus(at, 8);
+        at = text::saturating_add(at, 8);
         i += 1;
     }
     true

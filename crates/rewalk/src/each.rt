@@ -102,13 +102,13 @@ fn run_after(runs: &[u8], run: Run) -> Run {
         };
     }
     let head = behind(runs, next);
-    let at = text::plus(next, 4);
+    let at = text::saturating_add(next, 4);
     let len = words::u16_at(head, 2) as usize;
     let said = Part { at, len };
     Run {
         said,
         left: one_less(words::u16_at(head, 0)),
-        next: text::plus(at, len),
+        next: text::saturating_add(at, len),
     }
 }
 

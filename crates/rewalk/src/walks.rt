@@ -2,7 +2,7 @@
 use crate::answers;
 use crate::shown;
 use function::PoolObject;
-use header::HeaderAt;
+use header::HeaderAnswer;
 use refusal::Refusal;
 use vectors::items::Files;
 use vectors::items::behind;
@@ -62,8 +62,8 @@ fn code_len(bytes: &[u8], files: Files) -> usize {
         0,
     );
     match header {
-        HeaderAt::At(h) => h.code_len,
-        HeaderAt::Refused(_) => 0,
+        HeaderAnswer::At(h) => h.code_len,
+        HeaderAnswer::Refused(_) => 0,
     }
 }
 

@@ -98,7 +98,7 @@ pub fn are_3(said: &[u8], at: usize, a: u64, b: u64, c: u64) -> bool {
     if !are_2(said, at, a, b) {
         return false;
     }
-    words::u64_at(said, text::plus(at, 16)) == c
+    words::u64_at(said, text::saturating_add(at, 16)) == c
 }
 
 // The two numbers from place at on.
@@ -106,7 +106,7 @@ pub fn are_2(said: &[u8], at: usize, a: u64, b: u64) -> bool {
     if words::u64_at(said, at) != a {
         return false;
     }
-    words::u64_at(said, text::plus(at, 8)) == b
+    words::u64_at(said, text::saturating_add(at, 8)) == b
 }
 
 // The bytes of a buffer from a place on are as they were before the call: all 7.

@@ -6,8 +6,7 @@ use mathlib.Core.List.{List, _++_}
 use lib.Dec.{leb, ltb}
 use lib.ListN.{length, drop}
 use Rattle.refusal.specs.declared.Check.{Check}
-use Rattle.refusal.specs.declared.Check.the-variants.{Ok, Refused}
-use Rattle.refusal.specs.Check.{orElse, unlessGood}
+use Rattle.refusal.specs.Check.{firstRefusal, refuseUnless, guardedOn}
 use Rattle.store.specs.Records.{objectOf}
 use Rattle.tables.specs.Layout.{layoutOf}
 use Rattle.targets.specs.declared.Pool.{Pool}
@@ -16,11 +15,13 @@ use Rattle.function.specs.declared.PoolObject.{PoolObject}
 use Rattle.function.specs.Files.{Files, checkFiles, checkLent}
 use Rattle.function.specs.Pool.{poolOf, lentPool}
 use Rattle.function.specs.Code.{headerAt, headerCheck, codeOf, listingCheck}
-use Rattle.graph.specs.Graph.{Finding, Closed, Leaves, finding, markList}
+use Rattle.graph.specs.Graph.{Finding, Answer, finding, markList}
 use Rattle.graph.specs.Graph.Finding.{closed, leaves}
+use Rattle.flow.specs.Opcodes.{opcodesOf}
 use Rattle.steps.specs.Steps.{Source, listing, walkGraph}
 use Rattle.walk.specs.declared.Walked.{Walked}
 use Rattle.walk.specs.declared.Walked.the-variants as walked
+use Rattle.walk.specs.Numbers.{walkedNumbers}
 
 -- a finding as an answer
 abbrev pub answer : Finding → Walked
@@ -29,48 +30,45 @@ answer (leaves n o) = walked.Leaves n o
 
 -- 19: "code is empty"; 18: "mark buffer shorter than the code"
 abbrev pub roomCheck : ℕ → ℕ → Check
-roomCheck n room = orElse (unlessGood (ltb 0 n) 19) (unlessGood (leb n room) 18)
+roomCheck n room = firstRefusal (refuseUnless (ltb 0 n) 19) (refuseUnless (leb n room) 18)
 
 -- 11 to 16, 19 and 18
 abbrev pub walkCheck : Source → ℕ → Check
-walkCheck s room = orElse (listingCheck (s .opcodes) (s .pooled) (listing s)) (roomCheck (length (s .code)) room)
+walkCheck s room = firstRefusal (listingCheck (s .opcodes) (s .pooled) (listing s)) (roomCheck (length (s .code)) room)
 
 -- the answer, and the marks behind it: "further marks are unchanged"
 abbrev pub walkFound : Source → List ℕ → Walked × List ℕ
 walkFound s marks = let g = walkGraph s in (answer (finding g), markList g (finding g) (length (s .code)) ++ drop (length (s .code)) marks)
 
-abbrev pub unless : Check → List ℕ → Walked × List ℕ → Walked × List ℕ
-unless Ok marks a = a
-unless (Refused r) marks a = (walked.Refused r, marks)
-
 -- the walks of a code whose files are good
 unfoldable pub walkSource : Source → List ℕ → Walked × List ℕ
-walkSource s marks = unless (walkCheck s (length marks)) marks (walkFound s marks)
+walkSource s marks = guardedOn (walkCheck s (length marks)) walked.Refused marks (walkFound s marks)
 
--- an answer r and marks M are those of a call
+-- an answer r and marks M are those of a call, the answer in 01's numbers
 abbrev pub WalkedAs : Walked × List ℕ → Walked → List ℕ → Type 0
-WalkedAs a r M = (r ≡ a .0) × (M ≡ a .1)
+WalkedAs a r M = (walkedNumbers r ≡ walkedNumbers (a .0)) × (M ≡ a .1)
 
--- Demand 3, of an answer: "closed" means that no walk of any length leaves; else some walk leaves from there in exactly that many steps, no
--- walk leaves in fewer, none with as many from a lower offset.
-abbrev pub Promise : Source → Walked → Type 0
-Promise s walked.Closed = Closed (walkGraph s)
-Promise s (walked.Leaves n o) = Leaves (walkGraph s) n o
-Promise s (walked.Refused r) = Unit {0}
+-- Demand 3, of an answer and of the marks M behind it. "closed" means that no walk of any length leaves; else some walk leaves from there in
+-- exactly that many steps, no walk leaves in fewer, none with as many from a lower offset. The mark of an offset of the code is 1 just where some
+-- walk, after "leaves in n steps" one of fewer than n, ends there, and else 0.
+abbrev pub Promise : Source → Walked → List ℕ → Type 0
+Promise s walked.Closed M = Answer (walkGraph s) (length (s .code)) M closed
+Promise s (walked.Leaves n o) M = Answer (walkGraph s) (length (s .code)) M (leaves n o)
+Promise s (walked.Refused r) M = Unit {0}
 
 -- ---- the walks of an object
 -- code, with the files and a pool
 abbrev pub sourceWith : Files → List ℕ → Pool → Source
 sourceWith f code p =
     let l = layoutOf (f .layout) in
-    record { code = code; opcodes = f .opcodes; types = f .types; rfs = l .frame .«reg_file_start»; pooled = found p; elem = poolElem (f .slots) (f .payload) (l .«tagged_size») p }
+    record { code = code; opcodes = opcodesOf (f .opcodes); types = f .types; rfs = l .frame .«reg_file_start»; pooled = found p; elem = poolElem (f .slots) (f .payload) (l .«tagged_size») p }
 
 abbrev pub objectSource : Files → ℕ → Source
 objectSource f k = sourceWith f (codeOf f (headerAt f k)) (poolOf f (objectOf (f .objects) k))
 
 -- the call: rows 1 to 9, then 11 to 16, 19 and 18
 unfoldable pub walkCall : Files → ℕ → List ℕ → Walked × List ℕ
-walkCall f k marks = unless (orElse (checkFiles f k) (headerCheck (headerAt f k))) marks (walkSource (objectSource f k) marks)
+walkCall f k marks = guardedOn (firstRefusal (checkFiles f k) (headerCheck (headerAt f k))) walked.Refused marks (walkSource (objectSource f k) marks)
 
 -- ---- the walks of lent code
 -- with the pool of the object that is lent for it, if one is
@@ -79,4 +77,4 @@ lentSource f o code = sourceWith f code (lentPool f o)
 
 -- the call: rows 1 to 8 and 10, then 11 to 16, 19 and 18
 unfoldable pub walkLent : Files → PoolObject → List ℕ → List ℕ → Walked × List ℕ
-walkLent f o code marks = unless (checkLent f o code) marks (walkSource (lentSource f o code) marks)
+walkLent f o code marks = guardedOn (checkLent f o code) walked.Refused marks (walkSource (lentSource f o code) marks)

@@ -13,15 +13,15 @@ op-name-requires c κs = search needs
 put-bytes-requires : tie.Need-put-bytes-requires
 put-bytes-requires c κs = search needs
 
-plus-requires : tie.Need-plus-requires
-plus-requires c κs = search needs
+saturating-add-requires : tie.Need-saturating-add-requires
+saturating-add-requires c κs = search needs
 
 same-length : tie.Need-same-length
 same-length c = search needs
 
 returns : tie.Need-returns
 unfolding instrName
-returns c = rw (eq-eqb _ _ (c .before .if1 .taken), ← c .before .before .before .before .before .op-name .ensures) (then (omega (arith, c .before .before .before .before .before .before .before .before .before .good)) (c .before .before .before .before .put-bytes .ensures) (record { text = refl; end = c .plus .ensures }))
+returns c = rw (eq-eqb _ _ (c .before .if1 .taken), ← c .before .before .before .before .before .op-name .ensures) (then (omega (arith, c .before .before .before .before .before .before .before .before .before .good)) (c .before .before .before .before .put-bytes .ensures) (record { text = refl; end = c .saturating-add .ensures }))
 
 slice-aggregate-put-bytes : tie.Need-slice-aggregate-put-bytes
 slice-aggregate-put-bytes c = search needs
@@ -55,7 +55,7 @@ instr-name-spec =
     (tie.spec
     op-name-requires
     put-bytes-requires
-    plus-requires
+    saturating-add-requires
     same-length
     returns
     slice-aggregate-put-bytes

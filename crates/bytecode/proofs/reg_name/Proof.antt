@@ -10,8 +10,8 @@ use Rattle.bytecode.specs.Texts.{regName}
 use Rattle.bytecode.proofs.reg_name.Statement.{statement}
 use Rattle.bytecode.proofs.reg_name.Tie as tie
 
-same-i32-requires : tie.Need-same-i32-requires
-same-i32-requires c κs = search needs
+eq-i32-requires : tie.Need-eq-i32-requires
+eq-i32-requires c κs = search needs
 
 slice-aggregate-put-bytes : tie.Need-slice-aggregate-put-bytes
 slice-aggregate-put-bytes c = search needs
@@ -23,15 +23,15 @@ same-length : tie.Need-same-length
 same-length c = search needs
 
 -- what the tests say of the index
-context-is : (c : tie.After-same-i32) → c .same-i32 .result ≡ eqZ (c .before .before .before .args .index) (c .before .before .before .args .frame .context)
+context-is : (c : tie.After-eq-i32) → c .eq-i32 .result ≡ eqZ (c .before .before .before .args .index) (c .before .before .before .args .frame .context)
 context-is c =
     let f : SFits w32 (c .before .before .before .args .frame .context) = record { sfits = c .before .struct-told .given .1 .0 .1 } in
-    simp (toZ-ofZ (c .before .before .before .fits .index), toZ-ofZ f) at (c .same-i32 .ensures)
+    simp (toZ-ofZ (c .before .before .before .fits .index), toZ-ofZ f) at (c .eq-i32 .ensures)
 
-closure-is : (c : tie.After-same-i322) → c .same-i322 .result ≡ eqZ (c .before .before .before .before .before .before .args .index) (c .before .before .before .before .before .before .args .frame .closure)
+closure-is : (c : tie.After-eq-i322) → c .eq-i322 .result ≡ eqZ (c .before .before .before .before .before .before .args .index) (c .before .before .before .before .before .before .args .frame .closure)
 closure-is c =
     let f : SFits w32 (c .before .before .before .before .before .before .args .frame .closure) = record { sfits = c .before .struct-told2 .given .1 .1 .0 .1 } in
-    simp (toZ-ofZ (c .before .before .before .before .before .before .fits .index), toZ-ofZ f) at (c .same-i322 .ensures)
+    simp (toZ-ofZ (c .before .before .before .before .before .before .fits .index), toZ-ofZ f) at (c .eq-i322 .ensures)
 
 negative-is : (c : tie.After-is-negative) → c .is-negative .result ≡ negative (c .before .before .before .before .before .before .before .before .before .args .index)
 negative-is c =
@@ -41,8 +41,8 @@ returns : tie.Need-returns
 unfolding regName
 returns c = rw (sym (context-is (c .before .before .before .before .before .before)) ∙ c .before .before .before .before .before .if1 .taken) (c .before .before .put-bytes .ensures)
 
-same-i32-requires-2 : tie.Need-same-i32-requires-2
-same-i32-requires-2 c κs = search needs
+eq-i32-requires-2 : tie.Need-eq-i32-requires-2
+eq-i32-requires-2 c κs = search needs
 
 slice-aggregate-put-bytes-2 : tie.Need-slice-aggregate-put-bytes-2
 slice-aggregate-put-bytes-2 c = search needs
@@ -99,12 +99,12 @@ pub reg-name-spec : {M : Type 1} → statement M
 reg-name-spec =
     tie.close
     (tie.spec
-    same-i32-requires
+    eq-i32-requires
     slice-aggregate-put-bytes
     put-bytes-requires
     same-length
     returns
-    same-i32-requires-2
+    eq-i32-requires-2
     slice-aggregate-put-bytes-2
     put-bytes-requires-2
     same-length-2

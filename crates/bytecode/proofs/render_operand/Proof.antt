@@ -10,8 +10,8 @@ use Rattle.bytecode.proofs.render_operand.Tie as tie
 enum-told : tie.Need-enum-told
 enum-told c = search needs
 
-plus-requires : tie.Need-plus-requires
-plus-requires c κs = search needs
+saturating-add-requires : tie.Need-saturating-add-requires
+saturating-add-requires c κs = search needs
 
 enum-known-op : tie.Need-enum-known-op
 enum-known-op c = search needs
@@ -75,7 +75,7 @@ put-raw-requires c κs = search needs
 
 returns : tie.Need-returns
 unfolding operandText
-returns c = rw (c .before .enum-told .given .1) (record { text = refl; end = c .plus .ensures })
+returns c = rw (c .before .enum-told .given .1) (record { text = refl; end = c .saturating-add .ensures })
 
 same-length : tie.Need-same-length
 same-length c = search needs
@@ -151,7 +151,7 @@ render-operand-spec =
     tie.close
     (tie.spec
     enum-told
-    plus-requires
+    saturating-add-requires
     enum-known-op
     reg-name-requires
     enum-known-op-2

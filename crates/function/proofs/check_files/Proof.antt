@@ -11,14 +11,14 @@ check-store-requires c κs = search needs
 check-code-object-requires : tie.Need-check-code-object-requires
 check-code-object-requires c κs = search needs
 
-or-else-requires : tie.Need-or-else-requires
-or-else-requires c κs = search needs
+first-refusal-requires : tie.Need-first-refusal-requires
+first-refusal-requires c κs = search needs
 
-or-else-requires-2 : tie.Need-or-else-requires-2
-or-else-requires-2 c κs = search needs
+first-refusal-requires-2 : tie.Need-first-refusal-requires-2
+first-refusal-requires-2 c κs = search needs
 
 returns : tie.Need-returns
-returns c = rw (c .or-else2 .ensures, c .before .before .before .before .check-table .ensures, c .before .or-else .ensures, c .before .before .before .check-store .ensures, c .before .before .check-code-object .ensures)
+returns c = rw (c .first-refusal2 .ensures, c .before .before .before .before .check-table .ensures, c .before .first-refusal .ensures, c .before .before .before .check-store .ensures, c .before .before .check-code-object .ensures)
 
 pub check-files-spec : {M : Type 1} → statement M
 check-files-spec =
@@ -27,6 +27,6 @@ check-files-spec =
     check-table-requires
     check-store-requires
     check-code-object-requires
-    or-else-requires
-    or-else-requires-2
+    first-refusal-requires
+    first-refusal-requires-2
     returns)

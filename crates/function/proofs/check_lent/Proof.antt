@@ -17,14 +17,14 @@ check-pool-object-requires c κs = search needs
 check-code-requires : tie.Need-check-code-requires
 check-code-requires c κs = search needs
 
-or-else-requires : tie.Need-or-else-requires
-or-else-requires c κs = search needs
+first-refusal-requires : tie.Need-first-refusal-requires
+first-refusal-requires c κs = search needs
 
-or-else-requires-2 : tie.Need-or-else-requires-2
-or-else-requires-2 c κs = search needs
+first-refusal-requires-2 : tie.Need-first-refusal-requires-2
+first-refusal-requires-2 c κs = search needs
 
 returns : tie.Need-returns
-returns c = rw (c .or-else2 .ensures, c .before .before .before .before .check-table .ensures, c .before .or-else .ensures, c .before .before .before .check-pool-object .ensures, c .before .before .check-code .ensures)
+returns c = rw (c .first-refusal2 .ensures, c .before .before .before .before .check-table .ensures, c .before .first-refusal .ensures, c .before .before .before .check-pool-object .ensures, c .before .before .check-code .ensures)
 
 pub check-lent-spec : {M : Type 1} → statement M
 check-lent-spec =
@@ -35,6 +35,6 @@ check-lent-spec =
     check-table-requires
     check-pool-object-requires
     check-code-requires
-    or-else-requires
-    or-else-requires-2
+    first-refusal-requires
+    first-refusal-requires-2
     returns)

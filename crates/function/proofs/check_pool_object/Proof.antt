@@ -14,14 +14,14 @@ check-store-requires c κs = search needs
 check-object-requires : tie.Need-check-object-requires
 check-object-requires c κs = search needs
 
-or-else-requires : tie.Need-or-else-requires
-or-else-requires c κs = search needs
+first-refusal-requires : tie.Need-first-refusal-requires
+first-refusal-requires c κs = search needs
 
 returns : tie.Need-returns
 returns c = search needs
 
 returns-2 : tie.Need-returns-2
-returns-2 c = rw (c .before .before .before .before .object .given .1, c .or-else .ensures, c .before .before .check-store .ensures, c .before .check-object .ensures)
+returns-2 c = rw (c .before .before .before .before .object .given .1, c .first-refusal .ensures, c .before .before .check-store .ensures, c .before .check-object .ensures)
 
 pub check-pool-object-spec : {M : Type 1} → statement M
 check-pool-object-spec =
@@ -31,6 +31,6 @@ check-pool-object-spec =
     enum-known-object
     check-store-requires
     check-object-requires
-    or-else-requires
+    first-refusal-requires
     returns
     returns-2)

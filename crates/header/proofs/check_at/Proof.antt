@@ -8,12 +8,12 @@ check-store-requires c κs = search needs
 check-object-requires : tie.Need-check-object-requires
 check-object-requires c κs = search needs
 
-or-else-requires : tie.Need-or-else-requires
-or-else-requires c κs = search needs
+first-refusal-requires : tie.Need-first-refusal-requires
+first-refusal-requires c κs = search needs
 
 returns : tie.Need-returns
-returns c = rw (← c .before .before .check-store .ensures, ← c .before .check-object .ensures) (c .or-else .ensures)
+returns c = rw (← c .before .before .check-store .ensures, ← c .before .check-object .ensures) (c .first-refusal .ensures)
 
 pub check-at-spec : {M : Type 1} → statement M
 check-at-spec =
-    tie.close (tie.spec check-store-requires check-object-requires or-else-requires returns)
+    tie.close (tie.spec check-store-requires check-object-requires first-refusal-requires returns)

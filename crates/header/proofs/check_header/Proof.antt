@@ -8,12 +8,12 @@ check-layout-file-requires c κs = search needs
 check-code-requires : tie.Need-check-code-requires
 check-code-requires c κs = search needs
 
-or-else-requires : tie.Need-or-else-requires
-or-else-requires c κs = search needs
+first-refusal-requires : tie.Need-first-refusal-requires
+first-refusal-requires c κs = search needs
 
 returns : tie.Need-returns
-returns c = rw (← c .before .before .check-layout-file .ensures, ← c .before .check-code .ensures) (c .or-else .ensures)
+returns c = rw (← c .before .before .check-layout-file .ensures, ← c .before .check-code .ensures) (c .first-refusal .ensures)
 
 pub check-header-spec : {M : Type 1} → statement M
 check-header-spec =
-    tie.close (tie.spec check-layout-file-requires check-code-requires or-else-requires returns)
+    tie.close (tie.spec check-layout-file-requires check-code-requires first-refusal-requires returns)

@@ -13,14 +13,14 @@ returns c =
     let s = c .before .before in
     length-negative (s .args .length) (sym (simp (toZ-ofZ (s .fits .length)) at (c .before .is-negative .ensures)) ∙ c .if1 .taken)
 
-magnitude-requires : tie.Need-magnitude-requires
-magnitude-requires c κs = search needs
+unsigned-abs-requires : tie.Need-unsigned-abs-requires
+unsigned-abs-requires c κs = search needs
 
 returns-2 : tie.Need-returns-2
 returns-2 c =
     let s = c .before .before .before in
     let e = sym (simp (toZ-ofZ (s .fits .length)) at (c .before .before .is-negative .ensures)) ∙ c .before .if1 .left in
-    rw (simp (toZ-ofZ (s .fits .length)) at (c .magnitude .ensures)) (length-positive (s .args .length) e)
+    rw (simp (toZ-ofZ (s .fits .length)) at (c .unsigned-abs .ensures)) (length-positive (s .args .length) e)
 
 pub length-ok-spec : {M : Type 1} → statement M
-length-ok-spec = tie.close (tie.spec is-negative-requires returns magnitude-requires returns-2)
+length-ok-spec = tie.close (tie.spec is-negative-requires returns unsigned-abs-requires returns-2)

@@ -5,11 +5,11 @@ use Rattle.store.specs.declared.Object.{Object}
 use Rattle.serializer.specs.declared.RawAt.{RawAt}
 use Rattle.serializer.specs.mirror.Search.{rawSearched}
 use Rattle.tables.specs.declared.Layout.{Layout}
-use Rattle.header.specs.declared.HeaderAt.{HeaderAt}
+use Rattle.header.specs.declared.HeaderAnswer.{HeaderAnswer}
 use Rattle.header.specs.Header.{headerBy, rtFor}
 
 abbrev pub rawFor : List ℕ → Object → Layout → ℕ → ℕ → RawAt
 rawFor s o l = rawSearched s (o .first) (o .count) (l .«tagged_size»)
 
-abbrev pub headerSearched : List ℕ → List ℕ → Object → Layout → HeaderAt
+abbrev pub headerSearched : List ℕ → List ℕ → Object → Layout → HeaderAnswer
 headerSearched s payload o l = headerBy payload (rawFor s o l) (rtFor s o l) l

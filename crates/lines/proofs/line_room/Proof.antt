@@ -1,11 +1,11 @@
 use native.Mathlib.Omega.{arith}
-use Rattle.lines.specs.Room.{lineRoom}
+use Rattle.lines.specs.mirror.Room.{lineRoom}
 use borrow.Author.Needs.{needs}
 use Rattle.lines.proofs.line_room.Statement.{statement}
 use Rattle.lines.proofs.line_room.Tie as tie
 
-least-requires : tie.Need-least-requires
-least-requires c κs = search needs
+min-requires : tie.Need-min-requires
+min-requires c κs = search needs
 
 size-of-requires : tie.Need-size-of-requires
 size-of-requires c κs = search needs
@@ -37,34 +37,34 @@ mul-p-2 c = search needs
 add-p-3 : tie.Need-add-p-3
 add-p-3 c = search needs
 
-plus-requires : tie.Need-plus-requires
-plus-requires c κs = search needs
+saturating-add-requires : tie.Need-saturating-add-requires
+saturating-add-requires c κs = search needs
 
-plus-requires-2 : tie.Need-plus-requires-2
-plus-requires-2 c κs = search needs
+saturating-add-requires-2 : tie.Need-saturating-add-requires-2
+saturating-add-requires-2 c κs = search needs
 
-plus-requires-3 : tie.Need-plus-requires-3
-plus-requires-3 c κs = search needs
+saturating-add-requires-3 : tie.Need-saturating-add-requires-3
+saturating-add-requires-3 c κs = search needs
 
 returns : tie.Need-returns
 unfolding lineRoom
 returns c =
     omega (
       arith,
-      c .before .before .before .before .before .before .least .ensures,
+      c .before .before .before .before .before .before .min .ensures,
       c .before .before .before .before .before .size-of .ensures,
       c .before .before .before .before .target-room .ensures,
       c .before .before .before .entries-of .ensures,
-      c .before .before .plus .ensures,
-      c .before .plus2 .ensures,
-      c .plus3 .ensures,
+      c .before .before .saturating-add .ensures,
+      c .before .saturating-add2 .ensures,
+      c .saturating-add3 .ensures,
     )
 
 pub line-room-spec : {M : Type 1} → statement M
 line-room-spec =
     tie.close
     (tie.spec
-    least-requires
+    min-requires
     size-of-requires
     target-room-requires
     cast-p
@@ -75,7 +75,7 @@ line-room-spec =
     cast-p-2
     mul-p-2
     add-p-3
-    plus-requires
-    plus-requires-2
-    plus-requires-3
+    saturating-add-requires
+    saturating-add-requires-2
+    saturating-add-requires-3
     returns)

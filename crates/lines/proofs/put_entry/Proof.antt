@@ -11,8 +11,8 @@ use Rattle.lines.proofs.put_entry.Tie as tie
 enum-told : tie.Need-enum-told
 enum-told c = search needs
 
-plus-requires : tie.Need-plus-requires
-plus-requires c κs = search needs
+saturating-add-requires : tie.Need-saturating-add-requires
+saturating-add-requires c κs = search needs
 
 enum-known-entry : tie.Need-enum-known-entry
 enum-known-entry c = search needs
@@ -36,7 +36,7 @@ put-decimal-requires : tie.Need-put-decimal-requires
 put-decimal-requires c κs = search needs
 
 returns : tie.Need-returns
-returns c = rw (c .before .enum-told .given .1) (record { text = refl; end = c .plus .ensures })
+returns c = rw (c .before .enum-told .given .1) (record { text = refl; end = c .saturating-add .ensures })
 
 same-length : tie.Need-same-length
 same-length c = search needs
@@ -54,7 +54,7 @@ put-entry-spec =
     tie.close
     (tie.spec
     enum-told
-    plus-requires
+    saturating-add-requires
     enum-known-entry
     put-comma-requires
     put-byte-requires

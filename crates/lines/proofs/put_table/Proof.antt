@@ -8,14 +8,14 @@ use Rattle.lines.proofs.put_table.Tie as tie
 enum-told : tie.Need-enum-told
 enum-told c = search needs
 
-plus-requires : tie.Need-plus-requires
-plus-requires c κs = search needs
+saturating-add-requires : tie.Need-saturating-add-requires
+saturating-add-requires c κs = search needs
 
 enum-told-2 : tie.Need-enum-told-2
 enum-told-2 c = search needs
 
-plus-requires-2 : tie.Need-plus-requires-2
-plus-requires-2 c κs = search needs
+saturating-add-requires-2 : tie.Need-saturating-add-requires-2
+saturating-add-requires-2 c κs = search needs
 
 enum-known-table : tie.Need-enum-known-table
 enum-known-table c = search needs
@@ -36,10 +36,10 @@ put-bytes-requires-2 : tie.Need-put-bytes-requires-2
 put-bytes-requires-2 c κs = search needs
 
 returns : tie.Need-returns
-returns c = rw (c .before .enum-told .given .1) (record { text = refl; end = c .plus .ensures })
+returns c = rw (c .before .enum-told .given .1) (record { text = refl; end = c .saturating-add .ensures })
 
 returns-2 : tie.Need-returns-2
-returns-2 c = rw (c .before .enum-told2 .given .1) (record { text = refl; end = c .plus2 .ensures })
+returns-2 c = rw (c .before .enum-told2 .given .1) (record { text = refl; end = c .saturating-add2 .ensures })
 
 same-length : tie.Need-same-length
 same-length c = search needs
@@ -52,9 +52,9 @@ put-table-spec =
     tie.close
     (tie.spec
     enum-told
-    plus-requires
+    saturating-add-requires
     enum-told-2
-    plus-requires-2
+    saturating-add-requires-2
     enum-known-table
     slice-aggregate-put-bytes
     put-bytes-requires

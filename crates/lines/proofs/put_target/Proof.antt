@@ -23,8 +23,8 @@ put-byte-requires c κs = search needs
 enum-told : tie.Need-enum-told
 enum-told c = search needs
 
-plus-requires : tie.Need-plus-requires
-plus-requires c κs = search needs
+saturating-add-requires : tie.Need-saturating-add-requires
+saturating-add-requires c κs = search needs
 
 same-length : tie.Need-same-length
 same-length c = search needs
@@ -33,7 +33,7 @@ returns : tie.Need-returns
 returns c = let h = c .before .before .before .before .before .before .before .before .before .before .before .before .before .before .before .before .before .good in rw (c .before .before .before .before .before .before .before .before .before .before .before .before .before .before .target .given .1) (then (omega (arith, h)) (then (omega (arith, h)) (c .before .before .before .before .before .before .before .before .before .before .put-bytes .ensures) (c .before .before .before .before .before .before .put-decimal .ensures)) (c .before .before .put-byte .ensures))
 
 returns-2 : tie.Need-returns-2
-returns-2 c = rw (c .before .enum-told .given .1) (record { text = refl; end = c .plus .ensures })
+returns-2 c = rw (c .before .enum-told .given .1) (record { text = refl; end = c .saturating-add .ensures })
 
 pub put-target-spec : {M : Type 1} → statement M
 put-target-spec =
@@ -45,7 +45,7 @@ put-target-spec =
     put-decimal-requires
     put-byte-requires
     enum-told
-    plus-requires
+    saturating-add-requires
     same-length
     returns
     returns-2)

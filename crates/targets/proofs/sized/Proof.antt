@@ -25,15 +25,15 @@ returns c =
     let e = sym (simp (toZ-ofZ (s .fits .n)) at (c .before .is-negative .ensures)) ∙ c .if1 .taken in
     rw (c .before .before .before .base .given .1, count-negative (s .args .n) e)
 
-magnitude-requires : tie.Need-magnitude-requires
-magnitude-requires c κs = search needs
+unsigned-abs-requires : tie.Need-unsigned-abs-requires
+unsigned-abs-requires c κs = search needs
 
 returns-2 : tie.Need-returns-2
 unfolding sizedBy
 returns-2 c =
     let s = c .before .before .before .before .before .before .before in
     let e = sym (simp (toZ-ofZ (s .fits .n)) at (c .before .before .before .is-negative .ensures)) ∙ c .before .before .if1 .left in
-    let m = simp (toZ-ofZ (s .fits .n)) at (c .before .magnitude .ensures) in
+    let m = simp (toZ-ofZ (s .fits .n)) at (c .before .unsigned-abs .ensures) in
     rw (c .before .before .before .before .before .base .given .1, count-many (s .args .n) e (omega (arith, m, c .if2 .taken)))
 
 cast-t9 : tie.Need-cast-t9
@@ -51,7 +51,7 @@ unfolding sizedBy
 returns-4 c =
     let s = c .before .before .before .before .before .before .before .before in
     let e = sym (simp (toZ-ofZ (s .fits .n)) at (c .before .before .before .before .is-negative .ensures)) ∙ c .before .before .before .if1 .left in
-    let m = simp (toZ-ofZ (s .fits .n)) at (c .before .before .magnitude .ensures) in
+    let m = simp (toZ-ofZ (s .fits .n)) at (c .before .before .unsigned-abs .ensures) in
     let f : SFits w64 (c .before .before .before .before .before .before .base .given .0 .0) = record { sfits = c .before .before .before .before .before .known-told .given .0 .1 } in
     let b = toZ-ofZ {w = w32} {z = c .wrap-i32 .result} (sfits-of {w = w32} (c .wrap-i32 .ok)) ∙ simp (toZ-ofZ f) at (c .wrap-i32 .ensures) in
     rw (c .before .before .before .before .before .before .base .given .1, count-few (s .args .n) e (omega (arith, m, c .before .if2 .left)), b, m)
@@ -64,7 +64,7 @@ sized-spec =
     enum-known-base
     is-negative-requires
     returns
-    magnitude-requires
+    unsigned-abs-requires
     returns-2
     cast-t9
     wrap-i32-requires

@@ -22,8 +22,8 @@ is-found-requires c κs = search needs
 returns : tie.Need-returns Inv-loop μ-loop
 returns c = search needs
 
-plus-requires : tie.Need-plus-requires Inv-loop μ-loop
-plus-requires c κs = search needs
+saturating-add-requires : tie.Need-saturating-add-requires Inv-loop μ-loop
+saturating-add-requires c κs = search needs
 
 add-k : tie.Need-add-k Inv-loop μ-loop
 add-k c = search needs
@@ -53,7 +53,7 @@ are-records-spec =
     read-step-requires
     is-found-requires
     returns
-    plus-requires
+    saturating-add-requires
     add-k
     loop-less
     loop-again

@@ -31,8 +31,8 @@ returns : tie.Need-returns Inv-loop μ-loop
 returns c = search needs
 
 -- src/said.rt:58:9
-plus-requires : tie.Need-plus-requires Inv-loop μ-loop
-plus-requires c κs = search needs
+saturating-add-requires : tie.Need-saturating-add-requires Inv-loop μ-loop
+saturating-add-requires c κs = search needs
 
 -- src/said.rt:59:9
 add-i : tie.Need-add-i Inv-loop μ-loop
@@ -61,7 +61,7 @@ are-bits-spec =
     behind-requires
     are-8-requires
     returns
-    plus-requires
+    saturating-add-requires
     add-i
     loop-less
     loop-again

@@ -1,0 +1,16 @@
+use borrow.Author.Needs.{needs}
+use Rattle.refusal.proofs.refuse_unless.Statement.{statement}
+use Rattle.refusal.proofs.refuse_unless.Tie as tie
+use Rattle.refusal.proofs.refuse_unless.Reads as reads
+use Rattle.refusal.proofs.refuse_unless.Lts as lts
+
+-- src/lib.rt:26:1
+returns : tie.Need-returns
+returns c = search needs
+
+-- src/lib.rt:26:1
+returns-2 : tie.Need-returns-2
+returns-2 c = rw (c .if1 .left)
+
+pub refuse-unless-spec : {M : Type 1} → statement M
+refuse-unless-spec = tie.close (tie.spec returns returns-2)
