@@ -20,24 +20,27 @@ pub struct Cache {
 pub fn read(data: &[u8]) -> Result<Cache, String> {
     let (header, Found { table, node }) = checked(data)?;
     let payload = header.payload(data);
-    // The parser is jscd's; what it does not foresee in a damaged cache may stop it.
-    let made = catch_unwind(AssertUnwindSafe(|| {
+    let made = guarded(|| {
         let cache = serializer::parse(payload, &table)?;
         let layout = FamilyLayout::from_table(&table);
         let names = Disassembler::new(&cache, &table, layout);
         export::all(&cache, &table, |id| names.sfi_name(id))
-    }));
-    let wrong = |why: &str| {
-        format!("the payload is damaged, or of a V8 {} that the table is not for: {why}", table.v8)
-    };
+    });
+    let v8 = table.v8;
     match made {
-        Ok(Ok(all)) if all.functions.is_empty() && all.refused.is_empty() => {
+        Ok(all) if all.functions.is_empty() && all.refused.is_empty() => {
             Err("no function of it has bytecode".into())
         }
-        Ok(Ok(all)) => Ok(Cache { header, v8: table.v8.clone(), node, all }),
-        Ok(Err(message)) => Err(wrong(&message)),
-        Err(_) => Err(wrong("jscd's parser stopped")),
+        Ok(all) => Ok(Cache { header, v8, node, all }),
+        Err(why) => {
+            Err(format!("the payload is damaged, or of a V8 {v8} that the table is not for: {why}"))
+        }
     }
+}
+
+/// The parser is jscd's; where it does not foresee what a damaged cache has, it may stop.
+fn guarded<T>(work: impl FnOnce() -> Result<T, String>) -> Result<T, String> {
+    catch_unwind(AssertUnwindSafe(work)).unwrap_or_else(|_| Err("jscd's parser stopped".into()))
 }
 
 /// The header, and the table of its V8. What V8 itself tests is tested in its order, but for the flags of the process that made the cache
@@ -79,4 +82,17 @@ pub fn checksum(payload: &[u8]) -> u32 {
         high = (high + low) % PRIME;
     }
     high << 16 | low
+}
+
+#[cfg(test)]
+mod tests {
+    use super::*;
+
+    #[test]
+    fn a_stop_is_an_error() {
+        let none: [u8; 0] = [];
+        let stopped = guarded(|| Ok(none[std::hint::black_box(3)]));
+        assert_eq!(stopped, Err("jscd's parser stopped".into()));
+        assert_eq!(guarded(|| Ok(3)), Ok(3));
+    }
 }
