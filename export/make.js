@@ -19,9 +19,10 @@ function mark(text) {
   if (marks) fs.writeSync(1, text);
 }
 
-// A line on standard error; where V8 says the place in the file, that too.
+// A line on standard error: `app.js:3: SyntaxError: ..` where V8 names the place in the file.
 function failed(file, e) {
-  console.error(`${file}: ${e.stack.startsWith(file) ? e.stack.split('\n    at ')[0] : e.message}`);
+  const place = e.stack.startsWith(`${file}:`) ? e.stack.slice(0, e.stack.indexOf('\n')) : file;
+  console.error(`${place}: ${e.name}: ${e.message}`);
   process.exitCode = 1;
 }
 
