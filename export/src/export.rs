@@ -442,18 +442,21 @@ pub fn functions(cache: &CodeCache, table: &VersionTable) -> Vec<(ObjId, ObjId)>
             _ => None,
         })
     };
-    (0..cache.objects.len())
-        .filter(|id| cache.obj(*id).ty.is(table, "SharedFunctionInfo"))
-        .filter_map(|id| bytecode(id).map(|b| (id, b)))
-        .collect()
+    shared(cache, table).filter_map(|id| bytecode(id).map(|b| (id, b))).collect()
 }
 
-/// The files of a cache: those of the table, those of each function with the name of its folder, and the functions left out with the
-/// reason.
+/// All SharedFunctionInfos.
+fn shared<'a>(cache: &'a CodeCache, table: &'a VersionTable) -> impl Iterator<Item = ObjId> + 'a {
+    (0..cache.objects.len()).filter(|id| cache.obj(*id).ty.is(table, "SharedFunctionInfo"))
+}
+
+/// The files of a cache: those of the table, those of each function with the name of its folder, the functions left out with the reason, and how
+/// many there are that V8 had not compiled.
 pub struct All {
     pub table: [Vec<u8>; 5],
     pub functions: Vec<(String, [Vec<u8>; 3])>,
     pub refused: Vec<(String, String)>,
+    pub without: usize,
 }
 
 /// A function that the records cannot hold is left out and said; a table that they cannot hold is an error.
@@ -462,8 +465,11 @@ pub fn all(
     table: &VersionTable,
     name_of: impl Fn(ObjId) -> String,
 ) -> Result<All, String> {
-    let mut all = All { table: self::table(table)?, functions: Vec::new(), refused: Vec::new() };
-    for (id, bytecode_array) in functions(cache, table) {
+    let found = functions(cache, table);
+    let without = shared(cache, table).count() - found.len();
+    let mut all =
+        All { table: self::table(table)?, functions: Vec::new(), refused: Vec::new(), without };
+    for (id, bytecode_array) in found {
         let folder = folder_name(id, &name_of(id));
         match function(cache, table, bytecode_array) {
             Ok(files) => all.functions.push((folder, files)),

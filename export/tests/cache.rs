@@ -240,46 +240,56 @@ fn number(value: usize) -> Vec<u8> {
     ((value << 2 | (bytes - 1)) as u32).to_le_bytes()[..bytes].to_vec()
 }
 
-/// A cache of one function, made by hand: a SharedFunctionInfo whose BytecodeArray has so many bytes of code.
-fn made_up(code: usize) -> Vec<u8> {
+/// A cache made by hand: a SharedFunctionInfo whose BytecodeArray has so many bytes of code, or that has none, and one without beside it.
+fn made_up(code: Option<usize>) -> Vec<u8> {
     let found = version::table_of(version::hash([11, 3, 244, 8])).ok().unwrap();
     let root = |name: &str| {
         let at = found.table.roots.iter().position(|root| root == name).unwrap();
         [vec![6], number(at)].concat()
     };
-    let smi = |value: usize| (value << 32).to_le_bytes();
-    let size = (54 + code).next_multiple_of(8);
-    let mut out = [vec![0], number(7), root("SharedFunctionInfoMap")].concat();
-    out.extend([vec![0], number(size / 8), root("BytecodeArrayMap")].concat());
-    out.extend([&[0x60], &smi(code)[..]].concat());
-    for _ in 0..3 {
-        out.extend(root("EmptyFixedArray"));
-    }
-    out.extend([vec![16], number(size / 8 - 5), vec![0; size - 40]].concat());
-    for _ in 0..3 {
-        out.extend(root("UndefinedValue"));
-    }
-    out.extend([&[0x61], &[0; 16][..], &[11]].concat());
+    let undefined = root("UndefinedValue");
+    let bytecode = |code: usize| {
+        let size = (54 + code).next_multiple_of(8);
+        let head = [vec![0], number(size / 8), root("BytecodeArrayMap"), vec![0x60]].concat();
+        let roots = undefined.repeat(3);
+        let rest = [vec![16], number(size / 8 - 5), vec![0; size - 40]].concat();
+        [head, (code << 32).to_le_bytes().to_vec(), roots, rest].concat()
+    };
+    let shared = |data: Vec<u8>, last: Vec<u8>| {
+        let head = [vec![0], number(7), root("SharedFunctionInfoMap"), data].concat();
+        [head, undefined.repeat(2), last, vec![0x61], vec![0; 16]].concat()
+    };
+    let beside = shared(undefined.clone(), undefined.clone());
+    let data = code.map_or(undefined.clone(), bytecode);
+    let out = [shared(data, beside), vec![11]].concat();
     let mut header = NODE_20[..24].to_vec();
     header[16..20].copy_from_slice(&(out.len() as u32).to_le_bytes());
     header[20..].copy_from_slice(&checksum(&out).to_le_bytes());
     [header, out].concat()
 }
 
+/// What V8 had not compiled is counted; where that is all, there is nothing to write.
+#[test]
+fn functions_without_bytecode() {
+    assert_eq!(message(&made_up(None)), "no function of it has bytecode");
+    let folder = folder("without");
+    let said = run(&folder, &[&made_up(Some(100))]);
+    assert_eq!((text(&said.stderr).as_str(), said.status.code()), ("", Some(0)));
+    assert!(text(&said.stdout).contains("0.jsc: 1 functions, 1 not compiled; V8 11.3.244.8"));
+    assert!(folder.join("out/000000/objects.bin").exists());
+}
+
 /// A function that the records cannot hold is left out and told; the others are written.
 #[test]
 fn a_function_left_out() {
     let folder = folder("left");
-    let said = run(&folder, &[&made_up(100)]);
-    assert_eq!((text(&said.stderr).as_str(), said.status.code()), ("", Some(0)));
-    assert!(folder.join("out/000000/objects.bin").exists());
-    let folder = self::folder("left");
-    let said = run(&folder, &[&made_up(65_536), NODE_20]);
+    let said = run(&folder, &[&made_up(Some(65_536)), NODE_20]);
     assert_eq!(said.status.code(), Some(1));
     let told = text(&said.stderr);
     let rest = "0.jsc: 0-000000 left out: payload.bin would have 65560 bytes, more than 65536\n";
     assert!(told.ends_with(rest), "{told}");
-    assert!(text(&said.stdout).contains("0.jsc: 0 functions, 1 left out; V8 11.3.244.8"));
+    assert!(text(&said.stdout)
+        .contains("0.jsc: 0 functions, 1 left out, 1 not compiled; V8 11.3.244.8"));
     assert!(!folder.join("out/0-000000").exists());
     assert!(folder.join("out/1-000006-guarded/payload.bin").exists());
 }

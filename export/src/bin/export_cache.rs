@@ -64,10 +64,11 @@ fn spoken(cache: &Cache) -> String {
     let Cache { header, v8, node, all } = cache;
     let module = if header.is_module() { ", a module" } else { "" };
     let (length, flags) = (header.source_length(), header.flag_hash);
-    let left = match all.refused.len() {
+    let counted = |count: usize, what: &str| match count {
         0 => String::new(),
-        left => format!(", {left} left out"),
+        count => format!(", {count} {what}"),
     };
+    let left = counted(all.refused.len(), "left out") + &counted(all.without, "not compiled");
     let functions = all.functions.len();
     format!("{functions} functions{left}; V8 {v8} ({node}), flags {flags:#010x}, source of {length} characters{module}")
 }
