@@ -2,7 +2,7 @@
    crates/capi/src/lib.rt. x86-64 Linux.
 
    Bytes are lent as a pointer and a length; the pointer is not NULL, also for no bytes. What is lent as const is only read; `out`,
-   `marks`, `steps`, `place` and `numbers` overlap nothing else that is lent. No function keeps a pointer, allocates, prints or fails
+   `marks`, `steps`, `place`, `values` and `numbers` overlap nothing else that is lent. No function keeps a pointer, allocates, prints or fails
    otherwise than by its answer. A length is below 2^63.
 
    Stack: a call of jscd_walk takes up to 215,000 bytes whatever its code's length (room for 65,536 starts of one byte and 65,536 queued
@@ -52,6 +52,51 @@ uint8_t jscd_walk(uint8_t *marks, size_t marks_len,
                   const uint8_t *slots, size_t slots_len,
                   const uint8_t *payload, size_t payload_len,
                   size_t object, size_t *steps, size_t *place);
+
+/* Lent code. It is decoded by the opcodes, types and layout that are lent with it. Its pool is that of object number `object`, of any kind, of
+   the store objects, slots and payload, where `lent` is not 0; with 0 it has none, and the store and `object` are not looked at. */
+
+/* The walks through lent code. The answer and the marks are told as by jscd_walk. */
+uint8_t jscd_walk_code(uint8_t *marks, size_t marks_len,
+                       const uint8_t *code, size_t code_len,
+                       const uint8_t *opcodes, size_t opcodes_len,
+                       const uint8_t *types, size_t types_len,
+                       const uint8_t *layout, size_t layout_len,
+                       const uint8_t *objects, size_t objects_len,
+                       const uint8_t *slots, size_t slots_len,
+                       const uint8_t *payload, size_t payload_len,
+                       uint8_t lent, size_t object, size_t *steps, size_t *place);
+
+/* The first of the values that jscd_target and jscd_entry tell. */
+#define JSCD_NOTHING 0 /* no target, no table */
+#define JSCD_FOUND 1
+#define JSCD_SKIPPED 2 /* the entry's element is no small integer */
+#define JSCD_BEYOND 3  /* the table has no such entry */
+
+/* The target of the jump at a place of lent code.
+   JSCD_DONE: values[0] is JSCD_FOUND and values[1] the target, one below zero as 2^64 minus its size; or values[0] is JSCD_NOTHING.
+   *place is 0. JSCD_END: `at` is the code's length, and so is *place. A refusal: *place is its place.
+   All values are written: one that is not there is 0. */
+uint8_t jscd_target(const uint8_t *code, size_t code_len, size_t at,
+                    const uint8_t *opcodes, size_t opcodes_len,
+                    const uint8_t *types, size_t types_len,
+                    const uint8_t *layout, size_t layout_len,
+                    const uint8_t *objects, size_t objects_len,
+                    const uint8_t *slots, size_t slots_len,
+                    const uint8_t *payload, size_t payload_len,
+                    uint8_t lent, size_t object, size_t *place, uint64_t values[2]);
+
+/* Entry `k`, from 0 on, of the switch at a place of lent code.
+   JSCD_DONE: values[0] is JSCD_FOUND, values[1] the case, signed, in two's complement, and values[2] the target; or values[0] is
+   JSCD_SKIPPED, JSCD_BEYOND or JSCD_NOTHING. Otherwise as jscd_target. */
+uint8_t jscd_entry(const uint8_t *code, size_t code_len, size_t at,
+                   const uint8_t *opcodes, size_t opcodes_len,
+                   const uint8_t *types, size_t types_len,
+                   const uint8_t *layout, size_t layout_len,
+                   const uint8_t *objects, size_t objects_len,
+                   const uint8_t *slots, size_t slots_len,
+                   const uint8_t *payload, size_t payload_len,
+                   uint8_t lent, size_t object, size_t k, size_t *place, uint64_t values[3]);
 
 /* Kinds of an operand, with its first and second number; signed ones are in two's complement. */
 #define JSCD_NONE 0        /* an unused place */

@@ -148,6 +148,170 @@ pub fn walk(files: &Files, object: usize, marks: &mut [u8]) -> Result<Walked, Re
     }
 }
 
+/// The record files that code is lent with, and the object whose pool it uses, if one is lent: then objects, slots and payload are its store,
+/// else they are not looked at.
+#[derive(Debug, Clone, Copy)]
+pub struct Lent<'a> {
+    pub opcodes: &'a [u8],
+    pub types: &'a [u8],
+    pub layout: &'a [u8],
+    pub objects: &'a [u8],
+    pub slots: &'a [u8],
+    pub payload: &'a [u8],
+    pub object: Option<usize>,
+}
+
+impl Lent<'_> {
+    /// Whether an object is lent, and its number.
+    fn pool(&self) -> (u8, usize) {
+        self.object.map_or((0, 0), |object| (1, object))
+    }
+}
+
+/// The walks through lent code, with marks as for `walk`.
+pub fn walk_code(lent: &Lent, code: &[u8], marks: &mut [u8]) -> Result<Walked, Refusal> {
+    let (mut steps, mut place) = (0, 0);
+    let f = lent;
+    let (has_object, object) = f.pool();
+    // Safety: as in `walk`.
+    let number = unsafe {
+        jscd_walk_code(
+            marks.as_mut_ptr(),
+            marks.len(),
+            code.as_ptr(),
+            code.len(),
+            f.opcodes.as_ptr(),
+            f.opcodes.len(),
+            f.types.as_ptr(),
+            f.types.len(),
+            f.layout.as_ptr(),
+            f.layout.len(),
+            f.objects.as_ptr(),
+            f.objects.len(),
+            f.slots.as_ptr(),
+            f.slots.len(),
+            f.payload.as_ptr(),
+            f.payload.len(),
+            has_object,
+            object,
+            &mut steps,
+            &mut place,
+        )
+    };
+    match number {
+        DONE => Ok(Walked::Closed),
+        LEAVES => Ok(Walked::Leaves { steps, from: place }),
+        _ => Err(Refusal { number, place }),
+    }
+}
+
+/// The target of a jump.
+#[derive(Debug, Clone, Copy, PartialEq, Eq)]
+pub enum Target {
+    /// Kept modulo 2^64.
+    At(u64),
+    /// No jump, or none whose target is known.
+    Nothing,
+    /// The place is the code's end.
+    End,
+}
+
+/// The target of the jump at a place of lent code.
+pub fn target(lent: &Lent, code: &[u8], at: usize) -> Result<Target, Refusal> {
+    let mut place = 0;
+    let mut values = [0; 2];
+    let f = lent;
+    let (has_object, object) = f.pool();
+    // Safety: as in `list`; `values` has the length that the function writes.
+    let number = unsafe {
+        jscd_target(
+            code.as_ptr(),
+            code.len(),
+            at,
+            f.opcodes.as_ptr(),
+            f.opcodes.len(),
+            f.types.as_ptr(),
+            f.types.len(),
+            f.layout.as_ptr(),
+            f.layout.len(),
+            f.objects.as_ptr(),
+            f.objects.len(),
+            f.slots.as_ptr(),
+            f.slots.len(),
+            f.payload.as_ptr(),
+            f.payload.len(),
+            has_object,
+            object,
+            &mut place,
+            &mut values,
+        )
+    };
+    match (number, values) {
+        (DONE, [FOUND, target]) => Ok(Target::At(target)),
+        (DONE, _) => Ok(Target::Nothing),
+        (END, _) => Ok(Target::End),
+        _ => Err(Refusal { number, place }),
+    }
+}
+
+/// An entry of a switch.
+#[derive(Debug, Clone, Copy, PartialEq, Eq)]
+pub enum Entry {
+    Shown {
+        case: i32,
+        target: u64,
+    },
+    /// The entry's element is no small integer.
+    Skipped,
+    /// The table has no such entry.
+    Beyond,
+    /// No table.
+    Nothing,
+    /// The place is the code's end.
+    End,
+}
+
+/// Entry `k`, from 0 on, of the switch at a place of lent code.
+pub fn entry(lent: &Lent, code: &[u8], at: usize, k: usize) -> Result<Entry, Refusal> {
+    let mut place = 0;
+    let mut values = [0; 3];
+    let f = lent;
+    let (has_object, object) = f.pool();
+    // Safety: as in `target`.
+    let number = unsafe {
+        jscd_entry(
+            code.as_ptr(),
+            code.len(),
+            at,
+            f.opcodes.as_ptr(),
+            f.opcodes.len(),
+            f.types.as_ptr(),
+            f.types.len(),
+            f.layout.as_ptr(),
+            f.layout.len(),
+            f.objects.as_ptr(),
+            f.objects.len(),
+            f.slots.as_ptr(),
+            f.slots.len(),
+            f.payload.as_ptr(),
+            f.payload.len(),
+            has_object,
+            object,
+            k,
+            &mut place,
+            &mut values,
+        )
+    };
+    match (number, values) {
+        (DONE, [FOUND, case, target]) => Ok(Entry::Shown { case: case as i32, target }),
+        (DONE, [SKIPPED, ..]) => Ok(Entry::Skipped),
+        (DONE, [BEYOND, ..]) => Ok(Entry::Beyond),
+        (DONE, _) => Ok(Entry::Nothing),
+        (END, _) => Ok(Entry::End),
+        _ => Err(Refusal { number, place }),
+    }
+}
+
 /// The instruction at a place of lent code; None at the code's end.
 pub fn decode(
     opcodes: &[u8],
@@ -185,6 +349,9 @@ const DONE: u8 = 0;
 const END: u8 = 255;
 const LEAVES: u8 = 254;
 const NUMBERS: usize = 28;
+const FOUND: u64 = 1;
+const SKIPPED: u64 = 2;
+const BEYOND: u64 = 3;
 
 extern "C" {
     fn jscd_list(
@@ -232,6 +399,74 @@ extern "C" {
         object: usize,
         steps: *mut usize,
         place: *mut usize,
+    ) -> u8;
+
+    fn jscd_walk_code(
+        marks: *mut u8,
+        marks_len: usize,
+        code: *const u8,
+        code_len: usize,
+        opcodes: *const u8,
+        opcodes_len: usize,
+        types: *const u8,
+        types_len: usize,
+        layout: *const u8,
+        layout_len: usize,
+        objects: *const u8,
+        objects_len: usize,
+        slots: *const u8,
+        slots_len: usize,
+        payload: *const u8,
+        payload_len: usize,
+        lent: u8,
+        object: usize,
+        steps: *mut usize,
+        place: *mut usize,
+    ) -> u8;
+
+    fn jscd_target(
+        code: *const u8,
+        code_len: usize,
+        at: usize,
+        opcodes: *const u8,
+        opcodes_len: usize,
+        types: *const u8,
+        types_len: usize,
+        layout: *const u8,
+        layout_len: usize,
+        objects: *const u8,
+        objects_len: usize,
+        slots: *const u8,
+        slots_len: usize,
+        payload: *const u8,
+        payload_len: usize,
+        lent: u8,
+        object: usize,
+        place: *mut usize,
+        values: *mut [u64; 2],
+    ) -> u8;
+
+    fn jscd_entry(
+        code: *const u8,
+        code_len: usize,
+        at: usize,
+        opcodes: *const u8,
+        opcodes_len: usize,
+        types: *const u8,
+        types_len: usize,
+        layout: *const u8,
+        layout_len: usize,
+        objects: *const u8,
+        objects_len: usize,
+        slots: *const u8,
+        slots_len: usize,
+        payload: *const u8,
+        payload_len: usize,
+        lent: u8,
+        object: usize,
+        k: usize,
+        place: *mut usize,
+        values: *mut [u64; 3],
     ) -> u8;
 
     fn jscd_decode(

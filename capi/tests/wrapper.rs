@@ -1,6 +1,7 @@
 //! The wrapper on document 01's sample, whose files are in the listing program's data folder.
 
-use jscd_capi::{decode, list, walk, Files, Operand, Refusal, Walked};
+use jscd_capi::{decode, entry, list, target, walk, walk_code};
+use jscd_capi::{Entry, Files, Lent, Operand, Refusal, Target, Walked};
 use std::path::Path;
 
 fn file(name: &str) -> Vec<u8> {
@@ -34,6 +35,43 @@ impl Sample {
             unreachable!()
         };
         Files { opcodes, types, runtime, intrinsic, layout, objects, slots, payload }
+    }
+
+    /// Its tables for lent code, with no object.
+    fn alone(&self) -> Lent<'_> {
+        let Files { opcodes, types, layout, .. } = self.lent();
+        Lent { opcodes, types, layout, objects: &[], slots: &[], payload: &[], object: None }
+    }
+}
+
+/// The records of a store: an object, here of any kind, whose pool is object 1, and that one, with two elements: the small integer 4 and a
+/// reference, as in document 01's row `09 00 02 05 0b`.
+struct Pool {
+    objects: Vec<u8>,
+    slots: Vec<u8>,
+    payload: Vec<u8>,
+}
+
+impl Pool {
+    fn new() -> Pool {
+        let number = |n: u32| n.to_le_bytes();
+        let object = |first: u32, count: u32| {
+            [vec![0; 4], number(first).to_vec(), number(count).to_vec(), vec![0; 4]].concat()
+        };
+        let slot = |index: u32, kind: u8, at: u32, len: u32| {
+            let head = [number(index).to_vec(), vec![kind, 0, 0, 0]].concat();
+            [head, number(at).to_vec(), number(len).to_vec(), vec![0; 8]].concat()
+        };
+        Pool {
+            objects: [object(0, 1), object(1, 2)].concat(),
+            slots: [slot(2, 1, 1, 0), slot(2, 4, 0, 8), slot(3, 1, 0, 0)].concat(),
+            payload: vec![0, 0, 0, 0, 4, 0, 0, 0],
+        }
+    }
+
+    fn lent<'a>(&'a self, sample: &'a Sample, object: usize) -> Lent<'a> {
+        let Pool { objects, slots, payload } = self;
+        Lent { objects, slots, payload, object: Some(object), ..sample.alone() }
     }
 }
 
@@ -108,4 +146,64 @@ fn a_refusal_leaves_the_marks() {
     assert_eq!(walk(&cut.lent(), 0, &mut marks), Err(Refusal { number: 14, place: 5 }));
     assert_eq!(marks, [7; 5]);
     assert_eq!(walk(&sample.lent(), 0, &mut marks), Ok(Walked::Closed));
+}
+
+/// Document 01's rows on lent code: P10 `05 01`, P11 `00 05 03 00 02`, P12 `06 02 0b`, `06 03 0b`; empty code, marks too few, an object that
+/// is not there. What is behind the code's marks is as it was, and all of them after a refusal.
+#[test]
+fn walks_of_lent_code() {
+    let sample = Sample::new();
+    let mut marks = [7; 6];
+    let leaves = |steps, from| Ok(Walked::Leaves { steps, from });
+    assert_eq!(walk_code(&sample.alone(), &[0x05, 0x01], &mut marks), leaves(1, 0));
+    assert_eq!(marks, [1, 0, 7, 7, 7, 7]);
+    let code = [0x00, 0x05, 0x03, 0x00, 0x02];
+    assert_eq!(walk_code(&sample.alone(), &code, &mut marks), leaves(2, 4));
+    assert_eq!(marks, [1, 0, 0, 0, 1, 7]);
+    assert_eq!(walk_code(&sample.alone(), &[0x06, 0x02, 0x0b], &mut marks), Ok(Walked::Closed));
+    assert_eq!(marks, [1, 0, 1, 0, 1, 7]);
+    assert_eq!(walk_code(&sample.alone(), &[0x06, 0x03, 0x0b], &mut marks), leaves(1, 0));
+    let kept = marks;
+    let refused = |number| Err(Refusal { number, place: 0 });
+    assert_eq!(walk_code(&sample.alone(), &[], &mut marks), refused(19));
+    assert_eq!(walk_code(&sample.alone(), &code, &mut marks[..4]), refused(18));
+    let pool = Pool::new();
+    assert_eq!(walk_code(&pool.lent(&sample, 2), &code, &mut marks), refused(8));
+    assert_eq!(marks, kept);
+}
+
+/// Document 01's row `09 00 02 05 0b`: with the pool that the object has, `{ 5: @4 }` and closed; without an object no table.
+#[test]
+fn a_switch_in_lent_code() {
+    let (sample, pool) = (Sample::new(), Pool::new());
+    let (with, without) = (pool.lent(&sample, 0), sample.alone());
+    let code = [0x09, 0x00, 0x02, 0x05, 0x0b];
+    assert_eq!(entry(&with, &code, 0, 0), Ok(Entry::Shown { case: 5, target: 4 }));
+    assert_eq!(entry(&with, &code, 0, 1), Ok(Entry::Skipped));
+    assert_eq!(entry(&with, &code, 0, 2), Ok(Entry::Beyond));
+    assert_eq!(entry(&with, &code, 4, 0), Ok(Entry::Nothing));
+    assert_eq!(entry(&without, &code, 0, 0), Ok(Entry::Nothing));
+    assert_eq!(entry(&with, &code, 5, 0), Ok(Entry::End));
+    assert_eq!(entry(&with, &code, 6, 0), Err(Refusal { number: 20, place: 6 }));
+    let negative = [0x09, 0x00, 0x02, 0xfe, 0x0b];
+    assert_eq!(entry(&with, &negative, 0, 0), Ok(Entry::Shown { case: -2, target: 4 }));
+    let mut marks = [7; 5];
+    assert_eq!(walk_code(&with, &code, &mut marks), Ok(Walked::Closed));
+    assert_eq!(marks, [1, 0, 0, 0, 1]);
+}
+
+/// Document 01's P9, `07 03 00`; a jump by the pool, with and without one; no jump; the end, beyond it, an operand that is cut.
+#[test]
+fn targets() {
+    let (sample, pool) = (Sample::new(), Pool::new());
+    let (with, without) = (pool.lent(&sample, 0), sample.alone());
+    assert_eq!(target(&without, &[0x07, 0x03, 0x00], 0), Ok(Target::At(18446744073709551613)));
+    let code = [0x08, 0x00, 0x02];
+    assert_eq!(target(&with, &code, 0), Ok(Target::At(4)));
+    assert_eq!(target(&without, &code, 0), Ok(Target::Nothing));
+    assert_eq!(target(&with, &code, 2), Ok(Target::Nothing));
+    assert_eq!(target(&with, &code, 3), Ok(Target::End));
+    assert_eq!(target(&with, &code, 4), Err(Refusal { number: 20, place: 4 }));
+    assert_eq!(target(&with, &[0x08], 0), Err(Refusal { number: 14, place: 1 }));
+    assert_eq!(target(&pool.lent(&sample, 2), &code, 0), Err(Refusal { number: 8, place: 0 }));
 }

@@ -1,17 +1,51 @@
--- Laws of an instruction's numbers. Assumes nothing.
-use Prim.Native.Nat.{ℕ, _+_, _<_}
-use mathlib.Core.Path.{_≡_, sym, ap, _∙_}
+-- Laws of the numbers that C is told. Assumes nothing.
+use Prim.Native.Nat.{ℕ, _^_}
+use mathlib.Core.Path.{_≡_, refl, sym, ap, subst, _∙_}
 use mathlib.Core.List.{List}
-use lib.ListN.{length, getD, set}
-use mathlib.Core.Logic.{⊎-elim}
 use native.Mathlib.Omega.{arith}
-use lib.Seq.{getD-set-same, getD-set-other}
-use Rattle.laws.proofs.Tests.{same?}
-use Rattle.decoder.specs.declared.Instr.{Instr}
-use Rattle.capi.specs.Told.{instrNumber, Numbers}
+use mir.Syntax.{w32, w64}
+use mir.Val.{SFits}
+use lib.IntN.{ℤ}
+use Rattle.words.specs.Signed.{modulo}
+use Rattle.words.proofs.Signs.{modulo-fits}
+use Rattle.function.specs.declared.PoolObject.{PoolObject}
+use Rattle.function.specs.Files.{Files}
+use Rattle.steps.specs.Steps.{Source}
+use Rattle.walk.specs.declared.Walked.{Walked}
+use Rattle.walk.specs.declared.Walked.the-variants as walked
+use Rattle.walk.specs.Walk.{WalkedAs, Promise, lentSource, walkLent}
+use Rattle.walk.proofs.Numbers.{walked-numbers-one}
+use Rattle.walk.proofs.Rows.{WalkedRow, walk-lent-row}
+use Rattle.capi.specs.Told.{walkNumbers, walkTold, WalkPromise, told64}
 
--- one more number is stored
-pub numbers-more : (i : Instr) (ns : List ℕ) (n v : ℕ) → n < length ns → v ≡ instrNumber i n → Numbers i ns n → Numbers i (set ns n v) (n + 1)
-numbers-more i ns n v room is h k l = ⊎-elim
-    (λ (e : k ≡ n). ap (λ (j : ℕ). getD (set ns n v) j 0) e ∙ getD-set-same ns n v 0 room ∙ is ∙ ap (instrNumber i) (sym e))
-    (λ (x : k ≡ n → ⊥). getD-set-other ns n k v 0 x ∙ h k (omega arith)) (same? k n)
+-- ---- signed numbers
+pub told-wide : (z : ℤ) → SFits w64 z → modulo (2 ^ 64) z ≡ told64 z
+told-wide z h = modulo-fits w64 z h
+
+pub told-narrow : (z : ℤ) → SFits w32 z → modulo (2 ^ 64) z ≡ told64 z
+told-narrow z h = modulo-fits w64 z (record { sfits = omega (arith, h .sfits) })
+
+-- ---- a walk check's answer
+promise-told : (s : Source) (M : List ℕ) (w : Walked) → Promise s w M → WalkedRow w → let n = walkNumbers w in WalkPromise s M (n .0) (n .1) (n .2)
+promise-told s M walked.Closed p row = record { closed = λ e. p; leaves = λ e. absurd (omega (arith, e)); refused = λ a b. absurd (a refl) }
+promise-told s M (walked.Leaves n o) p row = record { closed = λ e. absurd (omega (arith, e)); leaves = λ e. p; refused = λ a b. absurd (b refl) }
+promise-told s M (walked.Refused r) p row = record {
+  closed = λ e. absurd (omega (arith, e, row .least));
+  leaves = λ e. absurd (omega (arith, e, row .most));
+  refused = λ a b. row .most;
+}
+
+-- an answer w and marks that are those of a call, as they are told
+pub walk-told : (s : Source) (w : Walked) (a : Walked × List ℕ) (M : List ℕ) → WalkedAs a w M × Promise s w M → WalkedRow (a .0) → {r steps place : ℕ} → (r, steps, place) ≡ walkNumbers w
+    → ((r, steps, place, M) ≡ walkTold a) × WalkPromise s M r steps place
+walk-told s w a M x row e =
+    let same = walked-numbers-one w (a .0) (x .0 .0) in (
+      ap (λ (t : ℕ × ℕ × ℕ). (t .0, t .1, t .2, M)) e ∙ ap (λ (v : Walked). walkTold (v, M)) same ∙ ap (λ (m : List ℕ). walkTold (a .0, m)) (x .0 .1),
+      subst (λ (t : ℕ × ℕ × ℕ). WalkPromise s M (t .0) (t .1) (t .2)) (sym e) (promise-told s M w (x .1) (subst WalkedRow (sym same) row)),
+    )
+
+-- the same on lent code, with the object p that was made of a flag and a number
+pub lent-told : (f : Files) (code marks : List ℕ) (p q : PoolObject) → p ≡ q → (w : Walked) (M : List ℕ) → WalkedAs (walkLent f p code marks) w M × Promise (lentSource f p code) w M
+    → {r steps place : ℕ} → (r, steps, place) ≡ walkNumbers w → ((r, steps, place, M) ≡ walkTold (walkLent f q code marks)) × WalkPromise (lentSource f q code) M r steps place
+lent-told f code marks p q e w M x =
+    walk-told (lentSource f q code) w (walkLent f q code marks) M (subst (λ (o : PoolObject). WalkedAs (walkLent f o code marks) w M × Promise (lentSource f o code) w M) e x) (walk-lent-row f q code marks)

@@ -1,102 +1,70 @@
 -- The answers of the calls as numbers, for C.
-use Prim.Native.Nat.{ℕ, _-_, _/_, _%_, _^_, _<_}
+use Prim.Native.Nat.{ℕ, zero, suc, _≤_}
 use mathlib.Core.Path.{_≡_}
-use mathlib.Core.List.{List}
+use mathlib.Core.List.{List, [], _∷_, map}
 use mathlib.Core.Bool.{cond}
 use lib.Dec.{eqb}
-use lib.ListN.{getD}
-use Rattle.words.specs.Signed.{modulo}
-use Rattle.operand.specs.declared.Operand.{Operand}
-use Rattle.operand.specs.declared.Operand.the-variants.{Nothing, Reg, RegList, Imm, Idx, Flag8, Flag16, RuntimeId, IntrinsicId, Raw}
-use Rattle.decoder.specs.declared.Instr.{Instr}
-use Rattle.decoder.specs.declared.Outcome.{Outcome}
-use Rattle.decoder.specs.declared.Decoded.{Decoded}
-use Rattle.targets.specs.Targets.{operandOf}
-use Rattle.disasm.specs.declared.Listed.{Listed}
-use Rattle.disasm.specs.declared.Listed.the-variants as listed-as
+use lib.IntN.{ℤ, natAbs}
+use mir.Syntax.{w64}
+use mir.Val.{ofZ}
+use Rattle.refusal.specs.Numbers.{Numbers}
+use Rattle.function.specs.declared.PoolObject.{PoolObject}
+use Rattle.function.specs.declared.PoolObject.the-variants as pool-object
+use Rattle.steps.specs.Steps.{Source}
+use Rattle.text.specs.declared.Written.{Written}
+use Rattle.text.specs.Numbers.{writtenNumbers}
 use Rattle.walk.specs.declared.Walked.{Walked}
 use Rattle.walk.specs.declared.Walked.the-variants as walked
+use Rattle.walk.specs.Numbers.{walkedNumbers}
+use Rattle.walk.specs.Walk.{Promise}
 
--- 01: "An answer, or a refusal: its number and a place". An answer is number 0, and its place is the listing's length. Then the buffer.
-abbrev pub toldAs : Listed → List ℕ → ℕ × ℕ × List ℕ
-toldAs (listed-as.Done n) o = (0, n, o)
-toldAs (listed-as.Refused r) o = (r .number, r .place, o)
+-- The answer of a listing in 01's numbers, as it is told: its number, and its place, which of an answer is the listing's length; then the buffer.
+abbrev pub listTold : Written × List ℕ → ℕ × ℕ × List ℕ
+listTold a = let n = writtenNumbers (a .0) in (n .number, n .place, a .1)
 
-abbrev pub listTold : Listed × List ℕ → ℕ × ℕ × List ℕ
-listTold a = toldAs (a .0) (a .1)
+-- the steps that a walk check's numbers tell: their value, or 0 where they have none
+abbrev pub stepsIn : List ℤ → ℕ
+stepsIn [] = 0
+stepsIn (v ∷ vs) = natAbs v
 
--- The answer of a walk check, the steps, the place, and the marks. 01's "closed" is 0; its "leaves" is 254, with the steps and the offset
--- left from. Where none are told, steps and place are 0.
-abbrev pub walkToldAs : Walked → List ℕ → ℕ × ℕ × ℕ × List ℕ
-walkToldAs walked.Closed m = (0, 0, 0, m)
-walkToldAs (walked.Leaves n o) m = (254, n, o, m)
-walkToldAs (walked.Refused r) m = (r .number, 0, r .place, m)
+-- The answer of a walk check in 01's numbers, as it is told: its number, the steps, the place; then the marks.
+abbrev pub walkNumbers : Walked → ℕ × ℕ × ℕ
+walkNumbers w = let n = walkedNumbers w in (n .number, stepsIn (n .values), n .place)
 
 abbrev pub walkTold : Walked × List ℕ → ℕ × ℕ × ℕ × List ℕ
-walkTold a = walkToldAs (a .0) (a .1)
+walkTold a = let n = walkNumbers (a .0) in (n .0, n .1, n .2, a .1)
 
--- an operand's kind
-abbrev pub kindNumber : Operand → ℕ
-kindNumber Nothing = 0
-kindNumber (Reg i) = 1
-kindNumber (RegList first count) = 2
-kindNumber (Imm v) = 3
-kindNumber (Idx v) = 4
-kindNumber (Flag8 v) = 5
-kindNumber (Flag16 v) = 6
-kindNumber (RuntimeId v) = 7
-kindNumber (IntrinsicId v) = 8
-kindNumber (Raw ty value) = 9
+-- Demand 3 in the numbers that are told: 0 means that no walk ever leaves; 254, that a shortest walk that leaves has so many steps, from that place;
+-- and of the marks what they mean after either. Any other number is a refusal's, 1 to 20.
+pub record WalkPromise (s : Source) (M : List ℕ) (number steps place : ℕ) : Type 0 where
+  pub closed : number ≡ 0 → Promise s walked.Closed M
+  pub leaves : number ≡ 254 → Promise s (walked.Leaves steps place) M
+  pub refused : (number ≡ 0 → ⊥) → (number ≡ 254 → ⊥) → number ≤ 20
 
--- its first number, a signed one in two's complement; of a raw operand the type code
-abbrev pub firstNumber : Operand → ℕ
-firstNumber Nothing = 0
-firstNumber (Reg i) = modulo (2 ^ 64) i
-firstNumber (RegList first count) = modulo (2 ^ 64) first
-firstNumber (Imm v) = modulo (2 ^ 64) v
-firstNumber (Idx v) = v
-firstNumber (Flag8 v) = v
-firstNumber (Flag16 v) = v
-firstNumber (RuntimeId v) = v
-firstNumber (IntrinsicId v) = v
-firstNumber (Raw ty value) = ty
+-- whether an object is lent for lent code, 0 if not, and its number
+abbrev pub poolObject : ℕ → ℕ → PoolObject
+poolObject lent n = cond (eqb lent 0) pool-object.Nothing (pool-object.Object n)
 
--- its second number: a list's count, a raw operand's value
-abbrev pub secondNumber : Operand → ℕ
-secondNumber Nothing = 0
-secondNumber (Reg i) = 0
-secondNumber (RegList first count) = count
-secondNumber (Imm v) = 0
-secondNumber (Idx v) = 0
-secondNumber (Flag8 v) = 0
-secondNumber (Flag16 v) = 0
-secondNumber (RuntimeId v) = 0
-secondNumber (IntrinsicId v) = 0
-secondNumber (Raw ty value) = value
+-- a value in 64 bits: a negative one in two's complement
+abbrev pub told64 : ℤ → ℕ
+told64 v = ofZ w64 v
 
--- the three numbers of an operand
-abbrev pub operandNumber : Operand → ℕ → ℕ
-operandNumber op j = cond (eqb j 0) (kindNumber op) (cond (eqb j 1) (firstNumber op) (secondNumber op))
+-- k values: those of an answer, and 0 for one that is not there
+abbrev pub valuesTold : ℕ → List ℤ → List ℕ
+valuesTold zero vs = []
+valuesTold (suc k) [] = 0 ∷ valuesTold k []
+valuesTold (suc k) (v ∷ vs) = told64 v ∷ valuesTold k vs
 
--- number k of an instruction: opcode, scale, end, number of operands, then three for each operand
-abbrev pub instrNumber : Instr → ℕ → ℕ
-instrNumber i k =
-    cond (eqb k 0) (i .opcode)
-    (cond (eqb k 1) (i .scale)
-    (cond (eqb k 2) (i .end)
-    (cond (eqb k 3) (i .count)
-    (operandNumber (operandOf i ((k - 4) / 3)) ((k - 4) % 3)))))
+-- An answer in 01's numbers, as it is told: its number, its place and k values. proofs/Rows.antt: a refusal's number is 1 to 20.
+abbrev pub numbersTold : ℕ → Numbers → ℕ × ℕ × List ℕ
+numbersTold k n = (n .number, n .place, valuesTold k (n .values))
 
--- the first n of a run of numbers are those of the instruction
-abbrev pub Numbers : Instr → List ℕ → ℕ → Type 0
-Numbers i ns n = (k : ℕ) → k < n → getD ns k 0 ≡ instrNumber i k
+-- The 28 numbers after decoding: an instruction's; as they were after a refusal, which has no values, and at the end, which has one.
+abbrev pub numbersAfter : List ℤ → List ℕ → List ℕ
+numbersAfter [] ns = ns
+numbersAfter (v ∷ []) ns = ns
+numbersAfter (v ∷ w ∷ vs) ns = map told64 (v ∷ w ∷ vs)
 
--- The answer r of decoding at a place, the place p told with it, and the numbers before and after: 01's "end" is 255, at the start place.
--- The numbers are the instruction's, or as they were.
-abbrev pub decodeToldBy : Outcome → Instr → ℕ → ℕ → ℕ → List ℕ → List ℕ → Type 0
-decodeToldBy Outcome.End i start r p ns ns′ = (r ≡ 255) × (p ≡ start) × (ns′ ≡ ns)
-decodeToldBy (Outcome.Refused f) i start r p ns ns′ = (r ≡ f .number) × (p ≡ f .place) × (ns′ ≡ ns)
-decodeToldBy Outcome.Done i start r p ns ns′ = (r ≡ 0) × (p ≡ i .end) × Numbers i ns′ 28
-
-abbrev pub decodeTold : Decoded → ℕ → ℕ → ℕ → List ℕ → List ℕ → Type 0
-decodeTold d start r p ns ns′ = decodeToldBy (d .outcome) (d .instr) start r p ns ns′
+-- The answer of decoding in 01's numbers, as it is told: its number, its place, and the numbers that were ns.
+abbrev pub decodeTold : Numbers → List ℕ → ℕ × ℕ × List ℕ
+decodeTold n ns = (n .number, n .place, numbersAfter (n .values) ns)

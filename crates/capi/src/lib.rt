@@ -1,18 +1,27 @@
 // The calls for C and Rust: numbers and lent bytes in, one number out. 0 is an answer, 1 to 20 a refusal's number, 255 the end of the
-// code, 254 a walk that leaves. The place, or the answer's length, is written behind a pointer.
+// code, 254 a walk that leaves. The place, or the answer's length, is written behind a pointer. All that is lent to a call is a parameter of its
+// own, and so is each number of its answer: the calls on lent code have twelve or thirteen parameters.
 
 use decoder::Instr;
 use decoder::Outcome;
-use disasm::Listed;
+use function::PoolObject;
+use jumps::EntryAnswer;
+use jumps::TargetAnswer;
 use operand::Operand;
+use text::Written;
 use walk::Walked;
 ghost use mathlib.Core.Path.{_≡_};
-ghost use Prim.Native.Nat.{_^_};
-ghost use Rattle.words.specs.Signed.{modulo};
+ghost use Prim.Native.Nat.{_<_};
+ghost use Rattle.function.specs.Files.{Files, filesOf, lentFiles};
 ghost use Rattle.disasm.specs.Listing.{listCall};
+ghost use Rattle.decoder.specs.declared.Decoded.{Decoded};
 ghost use Rattle.bytecode.specs.Decode.{decodeOne};
-ghost use Rattle.walk.specs.Walk.{walkCall};
-ghost use Rattle.capi.specs.Told.{listTold, walkTold, decodeTold, kindNumber, firstNumber, secondNumber, operandNumber, instrNumber, Numbers};
+ghost use Rattle.bytecode.specs.Numbers.{decodedNumbers};
+ghost use Rattle.jumps.specs.Jumps.{targetCall, entryCall};
+ghost use Rattle.jumps.specs.Numbers.{targetNumbers, entryNumbers};
+ghost use Rattle.walk.specs.Walk.{objectSource, walkCall, lentSource, walkLent};
+ghost use Rattle.capi.specs.Told.{listTold, walkNumbers, walkTold, WalkPromise, poolObject, told64, numbersTold, decodeTold};
+ghost use Rattle.capi.specs.mirror.Instr.{operandIn, operandNumber, instrNumber, NumbersAre};
 
 // The listing of an object into `out`: its length in `place`, or the refusal's place, with `out` as it was.
 #[no_mangle]
@@ -29,7 +38,9 @@ pub extern "C" fn jscd_list(
     object: usize,
     place: &mut usize,
 ) -> u8
-    ensures { λ r. ⌜ (r, now (place .exit), now (out .exit)) ≡ listTold (listCall (record { opcodes = now (opcodes .entry); types = now (types .entry); runtime = now (runtime .entry); intrinsic = now (intrinsic .entry); layout = now (layout .entry); objects = now (objects .entry); slots = now (slots .entry); payload = now (payload .entry) }) object (now (out .entry))) ⌝ }
+    ensures { λ r. let f : Files = filesOf (now (opcodes .entry)) (now (types .entry)) (now (runtime .entry)) (now (intrinsic .entry))
+        (now (layout .entry)) (now (objects .entry)) (now (slots .entry)) (now (payload .entry)) in
+        ⌜ (r, now (place .exit), now (out .exit)) ≡ listTold (listCall f object (now (out .entry))) ⌝ }
 {
     let listed = disasm::list(
         out,
@@ -44,11 +55,11 @@ pub extern "C" fn jscd_list(
         object,
     );
     match listed {
-        Listed::Done(n) => {
+        Written::Done(n) => {
             *place = n;
             0
         }
-        Listed::Refused(r) => {
+        Written::Refused(r) => {
             *place = r.place;
             r.number
         }
@@ -72,7 +83,10 @@ pub extern "C" fn jscd_walk(
     steps: &mut usize,
     place: &mut usize,
 ) -> u8
-    ensures { λ r. ⌜ (r, now (steps .exit), now (place .exit), now (marks .exit)) ≡ walkTold (walkCall (record { opcodes = now (opcodes .entry); types = now (types .entry); runtime = now (runtime .entry); intrinsic = now (intrinsic .entry); layout = now (layout .entry); objects = now (objects .entry); slots = now (slots .entry); payload = now (payload .entry) }) object (now (marks .entry))) ⌝ }
+    ensures { λ r. let f : Files = filesOf (now (opcodes .entry)) (now (types .entry)) (now (runtime .entry)) (now (intrinsic .entry))
+        (now (layout .entry)) (now (objects .entry)) (now (slots .entry)) (now (payload .entry)) in
+        ⌜ ((r, now (steps .exit), now (place .exit), now (marks .exit)) ≡ walkTold (walkCall f object (now (marks .entry))))
+        × WalkPromise (objectSource f object) (now (marks .exit)) r (now (steps .exit)) (now (place .exit)) ⌝ }
 {
     let walked = walk::walk(
         marks,
@@ -86,6 +100,50 @@ pub extern "C" fn jscd_walk(
         payload,
         object,
     );
+    tell_walked(walked, steps, place)
+}
+
+// The walks of lent code, with the pool of object number `object` where `lent` is not 0. The answer and the marks are told as by jscd_walk.
+#[no_mangle]
+pub extern "C" fn jscd_walk_code(
+    marks: &mut [u8],
+    code: &[u8],
+    opcodes: &[u8],
+    types: &[u8],
+    layout: &[u8],
+    objects: &[u8],
+    slots: &[u8],
+    payload: &[u8],
+    lent: u8,
+    object: usize,
+    steps: &mut usize,
+    place: &mut usize,
+) -> u8
+    ensures { λ r. let f : Files = lentFiles (now (opcodes .entry)) (now (types .entry)) (now (layout .entry)) (now (objects .entry))
+        (now (slots .entry)) (now (payload .entry)) in
+        ⌜ ((r, now (steps .exit), now (place .exit), now (marks .exit))
+        ≡ walkTold (walkLent f (poolObject lent object) (now (code .entry)) (now (marks .entry))))
+        × WalkPromise (lentSource f (poolObject lent object) (now (code .entry))) (now (marks .exit)) r (now (steps .exit)) (now (place .exit)) ⌝ }
+{
+    let pool = pool_object(lent, object);
+    let walked = walk::walk_code(
+        marks,
+        code,
+        opcodes,
+        types,
+        layout,
+        objects,
+        slots,
+        payload,
+        pool,
+    );
+    tell_walked(walked, steps, place)
+}
+
+// The numbers of a walk check's answer.
+fn tell_walked(walked: Walked, steps: &mut usize, place: &mut usize) -> u8
+    ensures { λ r. ⌜ (r, now (steps .exit), now (place .exit)) ≡ walkNumbers walked ⌝ }
+{
     match walked {
         Walked::Closed => {
             *steps = 0;
@@ -105,6 +163,159 @@ pub extern "C" fn jscd_walk(
     }
 }
 
+// The object whose pool lent code uses, if one is lent.
+fn pool_object(lent: u8, object: usize) -> PoolObject
+    ensures { λ r. ⌜ r ≡ poolObject lent object ⌝ }
+{
+    if lent == 0 {
+        PoolObject::Nothing
+    } else {
+        PoolObject::Object(object)
+    }
+}
+
+// The target of the jump at a place of lent code: `values` is 1 and the target, or 0 where there is none. 255: the place is the code's end.
+// `place` is that place, the refusal's place, or 0. A value that is not there is 0.
+#[no_mangle]
+pub extern "C" fn jscd_target(
+    code: &[u8],
+    at: usize,
+    opcodes: &[u8],
+    types: &[u8],
+    layout: &[u8],
+    objects: &[u8],
+    slots: &[u8],
+    payload: &[u8],
+    lent: u8,
+    object: usize,
+    place: &mut usize,
+    values: &mut [u64; 2],
+) -> u8
+    ensures { λ r. let f : Files = lentFiles (now (opcodes .entry)) (now (types .entry)) (now (layout .entry)) (now (objects .entry))
+        (now (slots .entry)) (now (payload .entry)) in
+        ⌜ (r, now (place .exit), now (values .exit))
+        ≡ numbersTold 2 (targetNumbers at (targetCall f (poolObject lent object) (now (code .entry)) at)) ⌝ }
+{
+    let pool = pool_object(lent, object);
+    let answer = jumps::jump_target(
+        code,
+        at,
+        opcodes,
+        types,
+        layout,
+        objects,
+        slots,
+        payload,
+        pool,
+    );
+    tell_target(answer, at, place, values)
+}
+
+// Entry k of the switch at a place of lent code: `values` is 1, the case and the target; 2 where the element is skipped, 3 where the table has no
+// entry k, 0 where there is no table. Else as jscd_target.
+#[no_mangle]
+pub extern "C" fn jscd_entry(
+    code: &[u8],
+    at: usize,
+    opcodes: &[u8],
+    types: &[u8],
+    layout: &[u8],
+    objects: &[u8],
+    slots: &[u8],
+    payload: &[u8],
+    lent: u8,
+    object: usize,
+    k: usize,
+    place: &mut usize,
+    values: &mut [u64; 3],
+) -> u8
+    ensures { λ r. let f : Files = lentFiles (now (opcodes .entry)) (now (types .entry)) (now (layout .entry)) (now (objects .entry))
+        (now (slots .entry)) (now (payload .entry)) in
+        ⌜ (r, now (place .exit), now (values .exit))
+        ≡ numbersTold 3 (entryNumbers at (entryCall f (poolObject lent object) (now (code .entry)) at k)) ⌝ }
+{
+    let pool = pool_object(lent, object);
+    let answer = jumps::jump_entry(
+        code,
+        at,
+        opcodes,
+        types,
+        layout,
+        objects,
+        slots,
+        payload,
+        pool,
+        k,
+    );
+    tell_entry(answer, at, place, values)
+}
+
+// The numbers of a target's answer.
+fn tell_target(answer: TargetAnswer, at: usize, place: &mut usize, values: &mut [u64; 2]) -> u8
+    ensures { λ r. ⌜ (r, now (place .exit), now (values .exit)) ≡ numbersTold 2 (targetNumbers at answer) ⌝ }
+{
+    match answer {
+        TargetAnswer::At(t) => {
+            *place = 0;
+            *values = [1, t];
+            0
+        }
+        TargetAnswer::Nothing => {
+            *place = 0;
+            *values = [0, 0];
+            0
+        }
+        TargetAnswer::End => {
+            *place = at;
+            *values = [0, 0];
+            255
+        }
+        TargetAnswer::Refused(r) => {
+            *place = r.place;
+            *values = [0, 0];
+            r.number
+        }
+    }
+}
+
+// The numbers of an entry's answer.
+fn tell_entry(answer: EntryAnswer, at: usize, place: &mut usize, values: &mut [u64; 3]) -> u8
+    ensures { λ r. ⌜ (r, now (place .exit), now (values .exit)) ≡ numbersTold 3 (entryNumbers at answer) ⌝ }
+{
+    match answer {
+        EntryAnswer::Shown { case, target } => {
+            *place = 0;
+            *values = [1, bits_of(case), target];
+            0
+        }
+        EntryAnswer::Skipped => {
+            *place = 0;
+            *values = [2, 0, 0];
+            0
+        }
+        EntryAnswer::Beyond => {
+            *place = 0;
+            *values = [3, 0, 0];
+            0
+        }
+        EntryAnswer::Nothing => {
+            *place = 0;
+            *values = [0, 0, 0];
+            0
+        }
+        EntryAnswer::End => {
+            *place = at;
+            *values = [0, 0, 0];
+            255
+        }
+        EntryAnswer::Refused(r) => {
+            *place = r.place;
+            *values = [0, 0, 0];
+            r.number
+        }
+    }
+}
+
 // The instruction at a place of lent code, as 28 numbers: opcode, scale, the place where it ends, how many operands, and three numbers
 // for each of eight operands. `place` is where it ends, the refusal's place, or the start place at the end. Unless it answers, the 28
 // numbers are as they were.
@@ -118,7 +329,8 @@ pub extern "C" fn jscd_decode(
     place: &mut usize,
     numbers: &mut [u64; 28],
 ) -> u8
-    ensures { λ r. ⌜ decodeTold (decodeOne (now (opcodes .entry)) (now (types .entry)) (now (layout .entry)) (now (code .entry)) start) start r (now (place .exit)) (now (numbers .entry)) (now (numbers .exit)) ⌝ }
+    ensures { λ r. let d : Decoded = decodeOne (now (opcodes .entry)) (now (types .entry)) (now (layout .entry)) (now (code .entry)) start in
+        ⌜ (r, now (place .exit), now (numbers .exit)) ≡ decodeTold (decodedNumbers start d) (now (numbers .entry)) ⌝ }
 {
     let decoded = bytecode::decode(opcodes, types, layout, code, start);
     let outcome = decoded.outcome;
@@ -143,7 +355,7 @@ pub extern "C" fn jscd_decode(
 
 // The 28 numbers of an instruction.
 fn instr_numbers(instr: Instr) -> [u64; 28]
-    ensures { λ r. ⌜ Numbers instr r 28 ⌝ }
+    ensures { λ r. ⌜ NumbersAre instr r 28 ⌝ }
 {
     let mut numbers = [0u64; 28];
     let mut k: u8 = 0;
@@ -157,6 +369,7 @@ fn instr_numbers(instr: Instr) -> [u64; 28]
 
 // Number k of an instruction.
 fn instr_number(instr: Instr, k: u8) -> u64
+    requires { ⌜ k < 28 ⌝ }
     ensures { λ r. ⌜ r ≡ instrNumber instr k ⌝ }
 {
     match k {
@@ -166,13 +379,24 @@ fn instr_number(instr: Instr, k: u8) -> u64
         3 => instr.count as u64,
         _ => {
             let j = k - 4;
-            operand_number(targets::operand_of(instr, j / 3), j % 3)
+            operand_number(operand_in(instr, j / 3), j % 3)
         }
     }
 }
 
+// The operand in place j of the eight.
+fn operand_in(instr: Instr, j: u8) -> Operand
+    requires { ⌜ j < 8 ⌝ }
+    ensures { λ r. ⌜ r ≡ operandIn instr j ⌝ }
+{
+    let at = j as usize;
+    let op = instr.operands[at];
+    op.operand
+}
+
 // Number j of an operand: its kind, then two numbers.
 fn operand_number(op: Operand, j: u8) -> u64
+    requires { ⌜ j < 3 ⌝ }
     ensures { λ r. ⌜ r ≡ operandNumber op j ⌝ }
 {
     match j {
@@ -183,7 +407,7 @@ fn operand_number(op: Operand, j: u8) -> u64
 }
 
 fn kind_number(op: Operand) -> u64
-    ensures { λ r. ⌜ r ≡ kindNumber op ⌝ }
+    ensures { λ r. ⌜ r ≡ operandNumber op 0 ⌝ }
 {
     match op {
         Operand::Nothing => 0,
@@ -200,7 +424,7 @@ fn kind_number(op: Operand) -> u64
 }
 
 fn first_number(op: Operand) -> u64
-    ensures { λ r. ⌜ r ≡ firstNumber op ⌝ }
+    ensures { λ r. ⌜ r ≡ operandNumber op 1 ⌝ }
 {
     match op {
         Operand::Nothing => 0,
@@ -218,13 +442,13 @@ fn first_number(op: Operand) -> u64
 
 // The 64 bits of a signed number.
 fn bits_of(i: i32) -> u64
-    ensures { λ r. ⌜ r ≡ modulo (2 ^ 64) i ⌝ }
+    ensures { λ r. ⌜ r ≡ told64 i ⌝ }
 {
     words::bits64(words::wide(i))
 }
 
 fn second_number(op: Operand) -> u64
-    ensures { λ r. ⌜ r ≡ secondNumber op ⌝ }
+    ensures { λ r. ⌜ r ≡ operandNumber op 2 ⌝ }
 {
     match op {
         Operand::Nothing => 0,

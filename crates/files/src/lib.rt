@@ -4,6 +4,7 @@ use libc::STDERR_FILENO;
 use libc::STDOUT_FILENO;
 ghost use mathlib.Core.Path.{_≡_};
 ghost use Rattle.io.specs.Counts.{Counts};
+ghost use Rattle.function.specs.Files.{filesOf};
 ghost use Rattle.program.specs.Printed.{Printed};
 ghost use Rattle.files.specs.PrintedBy.{printedBy};
 
@@ -122,7 +123,9 @@ fn answer(
     slots: &[u8],
     payload: &[u8],
 ) -> usize
-    ensures { λ r. ⌜ Printed (printedBy what (record { opcodes = now (opcodes .entry); types = now (types .entry); runtime = now (runtime .entry); intrinsic = now (intrinsic .entry); layout = now (layout .entry); objects = now (objects .entry); slots = now (slots .entry); payload = now (payload .entry) })) (now (out .entry)) (now (out .exit)) r ⌝ }
+    ensures { λ r. ⌜ Printed (printedBy what
+        (filesOf (now (opcodes .entry)) (now (types .entry)) (now (runtime .entry)) (now (intrinsic .entry)) (now (layout .entry))
+        (now (objects .entry)) (now (slots .entry)) (now (payload .entry)))) (now (out .entry)) (now (out .exit)) r ⌝ }
 {
     match what {
         Program::List => program::list_text(

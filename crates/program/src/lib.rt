@@ -1,15 +1,16 @@
 // What the programs print: a refusal's line, the listing of object 0, and the answer of the walk check on it.
 
-use disasm::Listed;
 use refusal::Check;
 use refusal::Refusal;
+use text::Written;
 use walk::Walked;
 ghost use mathlib.Core.Path.{_≡_};
 ghost use lib.ListN.{length};
 ghost use Rattle.text.specs.Put.{Put};
-ghost use Rattle.disasm.specs.Listing.{ListedAs};
+ghost use Rattle.text.specs.mirror.Written.{WrittenBy};
+ghost use Rattle.function.specs.Files.{filesOf};
 ghost use Rattle.walk.specs.declared.Walked.the-variants as walked;
-ghost use Rattle.program.specs.Printed.{refusalText, withinLimit, limited, shown, Printed, walkText, walkAnswer, walkShown};
+ghost use Rattle.program.specs.Printed.{refusalText, withinLimit, limited, shown, Printed, walkText, walkAnswer, WalkPrinted};
 
 // The line `refused 14 at 1`.
 fn put_refusal(out: &mut [u8], at: usize, r: Refusal) -> usize
@@ -34,7 +35,9 @@ pub fn list_text(
     slots: &[u8],
     payload: &[u8],
 ) -> usize
-    ensures { λ r. ⌜ Printed (shown (record { opcodes = now (opcodes .entry); types = now (types .entry); runtime = now (runtime .entry); intrinsic = now (intrinsic .entry); layout = now (layout .entry); objects = now (objects .entry); slots = now (slots .entry); payload = now (payload .entry) }) 65536) (now (out .entry)) (now (out .exit)) r ⌝ }
+    ensures { λ r. ⌜ Printed (shown
+        (filesOf (now (opcodes .entry)) (now (types .entry)) (now (runtime .entry)) (now (intrinsic .entry)) (now (layout .entry))
+        (now (objects .entry)) (now (slots .entry)) (now (payload .entry))) 65536) (now (out .entry)) (now (out .exit)) r ⌝ }
 {
     let listed = list_limited(
         out,
@@ -48,8 +51,8 @@ pub fn list_text(
         payload,
     );
     match listed {
-        Listed::Done(n) => n,
-        Listed::Refused(r) => put_refusal(out, 0, r),
+        Written::Done(n) => n,
+        Written::Refused(r) => put_refusal(out, 0, r),
     }
 }
 
@@ -64,8 +67,10 @@ fn list_limited(
     objects: &[u8],
     slots: &[u8],
     payload: &[u8],
-) -> Listed
-    ensures { λ r. ⌜ ListedAs (limited (record { opcodes = now (opcodes .entry); types = now (types .entry); runtime = now (runtime .entry); intrinsic = now (intrinsic .entry); layout = now (layout .entry); objects = now (objects .entry); slots = now (slots .entry); payload = now (payload .entry) }) (now (out .entry))) r (now (out .exit)) ⌝ }
+) -> Written
+    ensures { λ r. ⌜ WrittenBy (limited
+        (filesOf (now (opcodes .entry)) (now (types .entry)) (now (runtime .entry)) (now (intrinsic .entry)) (now (layout .entry))
+        (now (objects .entry)) (now (slots .entry)) (now (payload .entry))) (now (out .entry))) r (now (out .exit)) ⌝ }
 {
     if within_limit(objects.len(), slots.len(), payload.len()) {
         return disasm::list(
@@ -82,11 +87,11 @@ fn list_limited(
         );
     }
     match tables::check_table(opcodes, types, runtime, intrinsic, layout) {
-        Check::Ok => Listed::Refused(Refusal {
+        Check::Ok => Written::Refused(Refusal {
             number: refusal::STORE_SIZE,
             place: 0,
         }),
-        Check::Refused(r) => Listed::Refused(r),
+        Check::Refused(r) => Written::Refused(r),
     }
 }
 
@@ -102,7 +107,9 @@ pub fn walk_text(
     slots: &[u8],
     payload: &[u8],
 ) -> usize
-    ensures { λ r. ⌜ Printed (walkShown (record { opcodes = now (opcodes .entry); types = now (types .entry); runtime = now (runtime .entry); intrinsic = now (intrinsic .entry); layout = now (layout .entry); objects = now (objects .entry); slots = now (slots .entry); payload = now (payload .entry) })) (now (out .entry)) (now (out .exit)) r ⌝ }
+    ensures { λ r. ⌜ WalkPrinted
+        (filesOf (now (opcodes .entry)) (now (types .entry)) (now (runtime .entry)) (now (intrinsic .entry)) (now (layout .entry))
+        (now (objects .entry)) (now (slots .entry)) (now (payload .entry))) (now (out .entry)) (now (out .exit)) r ⌝ }
 {
     let walked = walk_marked(
         opcodes,
@@ -150,7 +157,9 @@ fn walk_marked(
     slots: &[u8],
     payload: &[u8],
 ) -> Walked
-    ensures { λ r. ⌜ r ≡ walkAnswer (record { opcodes = now (opcodes .entry); types = now (types .entry); runtime = now (runtime .entry); intrinsic = now (intrinsic .entry); layout = now (layout .entry); objects = now (objects .entry); slots = now (slots .entry); payload = now (payload .entry) }) 65536 ⌝ }
+    ensures { λ r. ⌜ r ≡ walkAnswer
+        (filesOf (now (opcodes .entry)) (now (types .entry)) (now (runtime .entry)) (now (intrinsic .entry)) (now (layout .entry))
+        (now (objects .entry)) (now (slots .entry)) (now (payload .entry))) 65536 ⌝ }
 {
     let mut marks = [0u8; 65536];
     walk_limited(
@@ -178,7 +187,9 @@ fn walk_limited(
     slots: &[u8],
     payload: &[u8],
 ) -> Walked
-    ensures { λ r. ⌜ r ≡ walkAnswer (record { opcodes = now (opcodes .entry); types = now (types .entry); runtime = now (runtime .entry); intrinsic = now (intrinsic .entry); layout = now (layout .entry); objects = now (objects .entry); slots = now (slots .entry); payload = now (payload .entry) }) (length (now (marks .entry))) ⌝ }
+    ensures { λ r. ⌜ r ≡ walkAnswer
+        (filesOf (now (opcodes .entry)) (now (types .entry)) (now (runtime .entry)) (now (intrinsic .entry)) (now (layout .entry))
+        (now (objects .entry)) (now (slots .entry)) (now (payload .entry))) (length (now (marks .entry))) ⌝ }
 {
     if within_limit(objects.len(), slots.len(), payload.len()) {
         return walk::walk(

@@ -1,3 +1,5 @@
+pub mod Numbers
+pub mod Rows
 pub mod Laws
 pub mod Starts
 pub mod Answers

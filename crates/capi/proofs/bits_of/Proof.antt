@@ -3,6 +3,7 @@ use mathlib.Core.Path.{ap, _∙_}
 use mir.Facts.{toZ-ofZ}
 use mir.Syntax.{w64}
 use Rattle.words.specs.Signed.{modulo}
+use Rattle.capi.proofs.Laws.{told-narrow}
 use borrow.Author.Needs.{sfits-of, needs}
 use Rattle.capi.proofs.bits_of.Statement.{statement}
 use Rattle.capi.proofs.bits_of.Tie as tie
@@ -14,7 +15,7 @@ bits64-requires : tie.Need-bits64-requires
 bits64-requires c κs = search needs
 
 returns : tie.Need-returns
-returns c = c .bits64 .ensures ∙ ap (modulo (2 ^ 64)) (toZ-ofZ {w = w64} {z = c .before .wide .result} (sfits-of {w = w64} (c .before .wide .ok)) ∙ c .before .wide .ensures ∙ toZ-ofZ (c .before .before .fits .i))
+returns c = c .bits64 .ensures ∙ ap (modulo (2 ^ 64)) (toZ-ofZ {w = w64} {z = c .before .wide .result} (sfits-of {w = w64} (c .before .wide .ok)) ∙ c .before .wide .ensures ∙ toZ-ofZ (c .before .before .fits .i)) ∙ told-narrow _ (c .before .before .fits .i)
 
 pub bits-of-spec : {M : Type 1} → statement M
 bits-of-spec = tie.close (tie.spec wide-requires bits64-requires returns)

@@ -3,6 +3,8 @@ use mathlib.Core.Path.{ap, _∙_}
 use mir.Facts.{toZ-ofZ}
 use mir.Syntax.{w32, w64}
 use Rattle.words.specs.Signed.{modulo}
+use Rattle.capi.specs.Told.{told64}
+use Rattle.capi.proofs.Laws.{told-wide}
 use borrow.Author.Needs.{needs}
 use Rattle.capi.proofs.first_number.Statement.{statement}
 use Rattle.capi.proofs.first_number.Tie as tie
@@ -68,13 +70,13 @@ returns : tie.Need-returns
 returns c = search needs
 
 returns-2 : tie.Need-returns-2
-returns-2 c = rw (c .before .before .op .given .1) (c .bits-of .ensures ∙ ap (modulo (2 ^ 64)) (toZ-ofZ {w = w32} {z = c .before .before .op .given .0 .0} (record { sfits = c .before .known-told .given .0 .1 })))
+returns-2 c = rw (c .before .before .op .given .1) (c .bits-of .ensures ∙ ap told64 (toZ-ofZ {w = w32} {z = c .before .before .op .given .0 .0} (record { sfits = c .before .known-told .given .0 .1 })))
 
 returns-3 : tie.Need-returns-3
-returns-3 c = rw (c .before .before .op2 .given .1) (c .bits-of2 .ensures ∙ ap (modulo (2 ^ 64)) (toZ-ofZ {w = w32} {z = c .before .before .op2 .given .0 .0} (record { sfits = c .before .known-told2 .given .0 .1 })))
+returns-3 c = rw (c .before .before .op2 .given .1) (c .bits-of2 .ensures ∙ ap told64 (toZ-ofZ {w = w32} {z = c .before .before .op2 .given .0 .0} (record { sfits = c .before .known-told2 .given .0 .1 })))
 
 returns-4 : tie.Need-returns-4
-returns-4 c = rw (c .before .before .op3 .given .1) (c .bits64 .ensures ∙ ap (modulo (2 ^ 64)) (toZ-ofZ {w = w64} {z = c .before .before .op3 .given .0 .0} (record { sfits = c .before .known-told3 .given .0 .1 })))
+returns-4 c = rw (c .before .before .op3 .given .1) (c .bits64 .ensures ∙ ap (modulo (2 ^ 64)) (toZ-ofZ {w = w64} {z = c .before .before .op3 .given .0 .0} (record { sfits = c .before .known-told3 .given .0 .1 })) ∙ told-wide _ (record { sfits = c .before .known-told3 .given .0 .1 }))
 
 returns-5 : tie.Need-returns-5
 returns-5 c = search needs

@@ -1,5 +1,9 @@
-use mathlib.Core.Path.{refl}
-use borrow.Author.Tests.{ne-eqb}
+use Prim.Native.Nat.{_-_, _%_}
+use mathlib.Core.Path.{sym, ap, _∙_}
+use native.Mathlib.Omega.{arith}
+use Rattle.operand.specs.declared.Operand.{Operand}
+use Rattle.capi.specs.mirror.Instr.{operandNumber}
+use Rattle.capi.proofs.Instr.{instr-operand}
 use borrow.Author.Needs.{needs}
 use Rattle.capi.proofs.instr_number.Statement.{statement}
 use Rattle.capi.proofs.instr_number.Tie as tie
@@ -13,26 +17,28 @@ cast-result-2 c = search needs
 sub-j : tie.Need-sub-j
 sub-j c = search needs
 
-operand-of-requires : tie.Need-operand-of-requires
-operand-of-requires c κs = search needs
+operand-in-requires : tie.Need-operand-in-requires
+operand-in-requires c κs = search needs
 
 operand-number-requires : tie.Need-operand-number-requires
 operand-number-requires c κs = search needs
 
 returns : tie.Need-returns
-returns c = rw (c .before .match .keys1) refl
+returns c = search needs
 
 returns-2 : tie.Need-returns-2
-returns-2 c = rw (c .before .match .keys2) refl
+returns-2 c = search needs
 
 returns-3 : tie.Need-returns-3
-returns-3 c = rw (c .match .keys3) refl
+returns-3 c = search needs
 
 returns-4 : tie.Need-returns-4
-returns-4 c = rw (c .match .keys4) refl
+returns-4 c = search needs
 
 returns-5 : tie.Need-returns-5
-returns-5 c = let r = c .before .before .match .rest in rw (ne-eqb _ _ (r .0 .0 .0 .1), ne-eqb _ _ (r .0 .0 .1), ne-eqb _ _ (r .0 .1), ne-eqb _ _ (r .1), ← c .before .operand-of .ensures) (c .operand-number .ensures)
+returns-5 c =
+    let r = c .before .before .match .rest in
+    c .operand-number .ensures ∙ ap (λ (o : Operand). operandNumber o ((c .before .before .before .args .k - 4) % 3)) (c .before .operand-in .ensures) ∙ sym (instr-operand (c .before .before .before .args .instr) (c .before .before .before .args .k) (omega (arith, r .0 .0 .0 .1, r .0 .0 .1, r .0 .1, r .1)))
 
 pub instr-number-spec : {M : Type 1} → statement M
 instr-number-spec =
@@ -41,7 +47,7 @@ instr-number-spec =
     cast-result
     cast-result-2
     sub-j
-    operand-of-requires
+    operand-in-requires
     operand-number-requires
     returns
     returns-2

@@ -3,13 +3,13 @@ use mathlib.Core.Path.{_≡_, refl}
 use native.Mathlib.Omega.{arith}
 use borrow.Author.Needs.{needs}
 use lib.ListN.{length, length-set}
-use Rattle.capi.specs.Told.{Numbers}
-use Rattle.capi.proofs.Laws.{numbers-more}
+use Rattle.capi.specs.mirror.Instr.{NumbersAre}
+use Rattle.capi.proofs.Instr.{numbers-more}
 use Rattle.capi.proofs.instr_numbers.Statement.{statement}
 use Rattle.capi.proofs.instr_numbers.Tie as tie
 
 abbrev Inv-loop : tie.InvT-loop
-Inv-loop instr numbers₀ k₀ numbers k = (k ≤ 28) × (length numbers ≡ 28) × Numbers instr numbers k
+Inv-loop instr numbers₀ k₀ numbers k = (k ≤ 28) × (length numbers ≡ 28) × NumbersAre instr numbers k
 
 abbrev μ-loop : tie.MeasureT-loop
 μ-loop instr numbers₀ k₀ numbers k = 28 - k

@@ -1,4 +1,8 @@
-use mathlib.Core.Path.{refl}
+use denote.Ref.{now}
+use Rattle.function.specs.Files.{filesOf}
+use Rattle.walk.specs.Walk.{objectSource, walkCall}
+use Rattle.walk.proofs.Rows.{walk-row}
+use Rattle.capi.proofs.Laws.{walk-told}
 use borrow.Author.Needs.{needs}
 use Rattle.capi.proofs.jscd_walk.Statement.{statement}
 use Rattle.capi.proofs.jscd_walk.Tie as tie
@@ -6,44 +10,17 @@ use Rattle.capi.proofs.jscd_walk.Tie as tie
 walk-requires : tie.Need-walk-requires
 walk-requires c κs = search needs
 
-enum-told : tie.Need-enum-told
-enum-told c = search needs
-
-enum-known-walked : tie.Need-enum-known-walked
-enum-known-walked c = search needs
-
-enum-known-walked-2 : tie.Need-enum-known-walked-2
-enum-known-walked-2 c = search needs
+tell-walked-requires : tie.Need-tell-walked-requires
+tell-walked-requires c κs = search needs
 
 same-length : tie.Need-same-length
 same-length c = search needs
 
 returns : tie.Need-returns
-returns c = rw (← c .before .before .before .before .walk .ensures .0 .0, ← c .before .before .before .before .walk .ensures .0 .1, c .enum-told .given .1) refl
-
-same-length-2 : tie.Need-same-length-2
-same-length-2 c = search needs
-
-returns-2 : tie.Need-returns-2
-returns-2 c = rw (← c .before .before .before .before .before .walk .ensures .0 .0, ← c .before .before .before .before .before .walk .ensures .0 .1, c .before .walked .given .1) refl
-
-same-length-3 : tie.Need-same-length-3
-same-length-3 c = search needs
-
-returns-3 : tie.Need-returns-3
-returns-3 c = rw (← c .before .before .before .before .before .walk .ensures .0 .0, ← c .before .before .before .before .before .walk .ensures .0 .1, c .before .walked2 .given .1) refl
+returns c =
+    let a = c .before .before .before .before .before .before .before .before .before .before .before .before .before .before .before .before .args in
+    let f = filesOf (now (a .opcodes)) (now (a .types)) (now (a .runtime)) (now (a .intrinsic)) (now (a .layout)) (now (a .objects)) (now (a .slots)) (now (a .payload)) in
+    walk-told (objectSource f (a .object)) (c .before .before .before .before .before .walk .result) (walkCall f (a .object) (now (a .marks))) _ (c .before .before .before .before .before .walk .ensures) (walk-row f (a .object) (now (a .marks))) (c .tell-walked .ensures)
 
 pub jscd-walk-spec : {M : Type 1} → statement M
-jscd-walk-spec =
-    tie.close
-    (tie.spec
-    walk-requires
-    enum-told
-    enum-known-walked
-    enum-known-walked-2
-    same-length
-    returns
-    same-length-2
-    returns-2
-    same-length-3
-    returns-3)
+jscd-walk-spec = tie.close (tie.spec walk-requires tell-walked-requires same-length returns)

@@ -1,4 +1,5 @@
-use borrow.Author.Tests.{ne-eqb}
+use mathlib.Core.Path.{_≡_}
+use native.Mathlib.Omega.{arith}
 use borrow.Author.Needs.{needs}
 use Rattle.capi.proofs.operand_number.Statement.{statement}
 use Rattle.capi.proofs.operand_number.Tie as tie
@@ -19,7 +20,7 @@ returns-2 : tie.Need-returns-2
 returns-2 c = rw (c .before .match .keys2) (c .first-number .ensures)
 
 returns-3 : tie.Need-returns-3
-returns-3 c = rw (ne-eqb _ _ (c .before .match .rest .0 .1), ne-eqb _ _ (c .before .match .rest .1)) (c .second-number .ensures)
+returns-3 c = let j : c .before .before .args .j ≡ 2 = omega (arith, c .before .before .pre, c .before .match .rest .0 .1, c .before .match .rest .1) in rw j (c .second-number .ensures)
 
 pub operand-number-spec : {M : Type 1} → statement M
 operand-number-spec =

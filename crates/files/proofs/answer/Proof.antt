@@ -18,7 +18,7 @@ returns : tie.Need-returns
 returns c = rw (c .before .before .enum-told .given .1) (c .list-text .ensures)
 
 returns-2 : tie.Need-returns-2
-returns-2 c = rw (c .before .before .enum-told2 .given .1) (c .walk-text .ensures)
+returns-2 c = rw (c .before .before .enum-told2 .given .1) (c .walk-text .ensures .text)
 
 pub answer-spec : {M : Type 1} → statement M
 answer-spec =

@@ -1,5 +1,5 @@
 use native.Mathlib.Omega.{arith}
-use Rattle.lines.specs.Room.{lineRoom}
+use Rattle.lines.specs.mirror.Room.{lineRoom}
 use borrow.Author.Needs.{needs}
 use Rattle.lines.proofs.line_room.Statement.{statement}
 use Rattle.lines.proofs.line_room.Tie as tie
