@@ -16,19 +16,18 @@ use Rattle.refusal.specs.declared.Check.the-variants.{Ok, Refused}
 use Rattle.refusal.specs.Check.{guarded, firstRefusal}
 use Rattle.refusal.specs.Numbers.{Numbers}
 use Rattle.tables.specs.Check.{checkTable}
-use Rattle.tables.specs.Records.{prefixOp}
 use Rattle.tables.specs.Layout.{signedValue}
 use Rattle.operand.specs.declared.Operand.{Operand}
 use Rattle.operand.specs.declared.Operand.the-variants.{Nothing, Reg, RegList, Imm, Idx, Flag8, Flag16, RuntimeId, IntrinsicId, Raw}
 use Rattle.operand.specs.Numbers.{operandNumbers}
-use Rattle.flow.specs.Opcodes.{Opcodes, opcodesOf}
+use Rattle.flow.specs.Opcodes.{Opcodes, opcodesOf, prefixWith}
 use Rattle.decoder.specs.declared.Head.{Head}
 use Rattle.decoder.specs.declared.OperandRecord.{OperandRecord}
 use Rattle.decoder.specs.declared.Instr.{Instr}
 use Rattle.decoder.specs.declared.Outcome.{Outcome}
 use Rattle.decoder.specs.declared.Decoded.{Decoded}
 use Rattle.decoder.specs.Head.{headAt}
-use Rattle.decoder.specs.Decode.{Part, partsFrom, operandTypes, partWidth, offsetOf, operandsFrom, isShort, shortNumber, recordsOf, instrOf, refusedAt, readParts, decodeHead, decodeBy}
+use Rattle.decoder.specs.Decode.{Part, partsFrom, operandTypes, partWidth, offsetOf, operandsFrom, isShort, shortNumber, recordsOf, instrOf, refusedAt, readParts, decodeHead, decodeAt}
 use Rattle.decoder.specs.Listed.{decodes}
 use Rattle.bytecode.specs.Decode.{checkCode, refusedBy, decodeOne}
 use Rattle.bytecode.specs.Numbers.{operandsNumbers, instrNumbers, outcomeNumbers, decodedNumbers}
@@ -122,11 +121,11 @@ eight-head (Head.Refused r) code ops types start rfs = refl
 eight-head (Head.Op opcode scale at) code ops types start rfs = eight-parts code types scale opcode rfs start at (partsFrom false (operandTypes ops opcode))
 
 eight : (ops types layout code : List ℕ) (start : ℕ) → Eight (decodeOne ops types layout code start)
-unfolding decodeOne decodeBy
+unfolding decodeOne decodeAt
 eight ops types layout code start = go (firstRefusal (checkTable ops types [] [] layout) (checkCode code))
   where
-    go : (c : Check) → Eight (guarded c refusedBy (decodes code ops types (signedValue layout 13) start))
-    go Ok = eight-head (headAt code (opcodesOf ops .many) start (prefixOp ops 1) (prefixOp ops 2)) code (opcodesOf ops) types start (signedValue layout 13)
+    go : (c : Check) → Eight (guarded c refusedBy (decodes code (opcodesOf ops) types (signedValue layout 13) start))
+    go Ok = eight-head (headAt code (opcodesOf ops .many) start (prefixWith (opcodesOf ops) 1) (prefixWith (opcodesOf ops) 2)) code (opcodesOf ops) types start (signedValue layout 13)
     go (Refused r) = refl
 
 -- ---- as it is told

@@ -15,6 +15,7 @@ use Rattle.serializer.specs.declared.Elem.{Elem}
 use Rattle.tables.specs.Layout.{signedValue}
 use Rattle.decoder.specs.declared.Outcome.{Outcome}
 use Rattle.flow.specs.Flow.{flowOf}
+use Rattle.flow.specs.Opcodes.{opcodesOf}
 use Rattle.targets.specs.Targets.{here, found, jumpTarget, jumpTable, entryAt}
 use Rattle.targets.specs.declared.Target.{Target}
 use Rattle.targets.specs.declared.Target.the-variants as target
@@ -52,8 +53,8 @@ module _ (at : ℕ) where
       decoded Outcome.Done (target.At t) row e = some _ _ e
       decoded Outcome.Done target.Nothing row e = some _ _ e
 
-      checked : (c : Check) → RowOf c → Told (targetNumbers at (guarded c target-answer.Refused (targetOf (f .opcodes) (lentElem f w) (decodedAt f code at))))
-      checked Ok row e = let d = decodedAt f code at in decoded (d .outcome) (jumpTarget (lentElem f w) (flowOf (f .opcodes) (d .instr .opcode)) (d .instr)) (decode-row code (f .opcodes) (f .types) (signedValue (f .layout) 13) at) e
+      checked : (c : Check) → RowOf c → Told (targetNumbers at (guarded c target-answer.Refused (targetOf (opcodesOf (f .opcodes)) (lentElem f w) (decodedAt f code at))))
+      checked Ok row e = let d = decodedAt f code at in decoded (d .outcome) (jumpTarget (lentElem f w) (flowOf (f .opcodes) (d .instr .opcode)) (d .instr)) (decode-row code (opcodesOf (f .opcodes)) (f .types) (signedValue (f .layout) 13) at) e
       checked (Refused r) row e = (row .row r refl .least, row .row r refl .most)
 
   -- ---- entries
@@ -82,6 +83,6 @@ module _ (at : ℕ) where
       decoded (Outcome.Refused r) t row e = (row .row r refl .least, row .row r refl .most)
       decoded Outcome.Done t row e = shown t e
 
-      checked : (c : Check) → RowOf c → Told (entryNumbers at (entryOf el from (guarded c table-answer.Refused (tableOf (f .opcodes) (found (lentPool f w)) (decodedAt f code at) at)) k))
-      checked Ok row e = let d = decodedAt f code at in decoded (d .outcome) (jumpTable (found (lentPool f w)) (flowOf (f .opcodes) (d .instr .opcode)) (d .instr)) (decode-row code (f .opcodes) (f .types) (signedValue (f .layout) 13) at) e
+      checked : (c : Check) → RowOf c → Told (entryNumbers at (entryOf el from (guarded c table-answer.Refused (tableOf (opcodesOf (f .opcodes)) (found (lentPool f w)) (decodedAt f code at) at)) k))
+      checked Ok row e = let d = decodedAt f code at in decoded (d .outcome) (jumpTable (found (lentPool f w)) (flowOf (f .opcodes) (d .instr .opcode)) (d .instr)) (decode-row code (opcodesOf (f .opcodes)) (f .types) (signedValue (f .layout) 13) at) e
       checked (Refused r) row e = (row .row r refl .least, row .row r refl .most)
