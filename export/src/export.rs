@@ -1,7 +1,8 @@
 //! Document 01's record files of a function, from a `VersionTable` and a `CodeCache`.
 //!
 //! This file goes into jscd's `src/` as it is (README.md says how): it needs `tables`, `serializer` and `disasm` and uses what they make
-//! public. `table` makes the five table files, `function` the three store files of one function, `write_all` a folder of both.
+//! public. `table` makes the five table files, `function` the three store files of one function, `all` both for every function of a cache,
+//! `write_all` a folder of them. `handlers` makes handler records, which no file holds yet.
 //!
 //! What the records cannot hold is an error that names it; nothing is written then.
 
@@ -373,6 +374,60 @@ impl Store<'_, '_> {
     }
 }
 
+// ---- handlers ----
+
+/// Handler records of a function, 12 bytes each: start, end, handler offset. Document 01 has no file for them; they are what the walk check
+/// is to be lent once handlers are steps. An entry whose start is its end holds no instruction and is left out.
+pub fn handlers(
+    cache: &CodeCache,
+    table: &VersionTable,
+    bytecode_array: ObjId,
+) -> Result<Vec<u8>, String> {
+    let layout = crate::bytecode::FamilyLayout::from_table(table);
+    let slot = Disassembler::new(cache, table, layout).bca_handler_table_slot();
+    // A root is the empty table.
+    let Some(SlotValue::Ref(Ref::Object(id))) = cache.slot_at(bytecode_array, slot) else {
+        return Ok(Vec::new());
+    };
+    let bytes = byte_array(cache, *id)?;
+    if bytes.len() % HANDLER != 0 {
+        return Err(format!("the handler table, object {id}, has {} bytes", bytes.len()));
+    }
+    let shift = handler_shift(table)?;
+    let mut out = Vec::new();
+    for entry in bytes.chunks_exact(HANDLER) {
+        let word = |k: usize| u32::from_le_bytes([0, 1, 2, 3].map(|b| entry[4 * k + b]));
+        if word(0) != word(1) {
+            out.extend([word(0), word(1), word(2) >> shift].iter().flat_map(|w| w.to_le_bytes()));
+        }
+    }
+    Ok(out)
+}
+
+/// Bytes of an entry in V8's table: start, end, handler with its prediction, data.
+const HANDLER: usize = 16;
+
+/// The handler's offset stands above the prediction: three bits up to V8 11.
+fn handler_shift(table: &VersionTable) -> Result<u32, String> {
+    match table.v8.split('.').next().and_then(|major| major.parse::<u32>().ok()) {
+        Some(0..=11) => Ok(3),
+        _ => Err(format!("how V8 {} writes a handler's offset is not known here", table.v8)),
+    }
+}
+
+/// What a ByteArray holds: its length is a small integer behind the map, its bytes follow.
+fn byte_array<'c>(cache: &CodeCache<'c>, id: ObjId) -> Result<&'c [u8], String> {
+    let ts = cache.tagged_size();
+    let length = cache.raw_at(id, ts, ts).and_then(crate::serializer::decode_smi_bytes);
+    let length = length.and_then(|length| usize::try_from(length).ok());
+    match length {
+        Some(0) => Some(&[][..]),
+        Some(length) => cache.raw_at(id, 2 * ts, length),
+        None => None,
+    }
+    .ok_or_else(|| format!("object {id} holds no bytes of its length"))
+}
+
 // ---- all functions ----
 
 /// The SharedFunctionInfos that have bytecode, each with its BytecodeArray, found as `render_all` finds them.
@@ -387,10 +442,52 @@ pub fn functions(cache: &CodeCache, table: &VersionTable) -> Vec<(ObjId, ObjId)>
             _ => None,
         })
     };
-    (0..cache.objects.len())
-        .filter(|id| cache.obj(*id).ty.is(table, "SharedFunctionInfo"))
-        .filter_map(|id| bytecode(id).map(|b| (id, b)))
-        .collect()
+    shared(cache, table).filter_map(|id| bytecode(id).map(|b| (id, b))).collect()
+}
+
+/// All SharedFunctionInfos.
+fn shared<'a>(cache: &'a CodeCache, table: &'a VersionTable) -> impl Iterator<Item = ObjId> + 'a {
+    (0..cache.objects.len()).filter(|id| cache.obj(*id).ty.is(table, "SharedFunctionInfo"))
+}
+
+/// The files of a cache: those of the table, those of each function with the name of its folder, the functions left out with the reason, and how
+/// many there are that V8 had not compiled.
+pub struct All {
+    pub table: [Vec<u8>; 5],
+    pub functions: Vec<(String, [Vec<u8>; 3])>,
+    pub refused: Vec<(String, String)>,
+    pub without: usize,
+}
+
+/// A function that the records cannot hold is left out and said; a table that they cannot hold is an error.
+pub fn all(
+    cache: &CodeCache,
+    table: &VersionTable,
+    name_of: impl Fn(ObjId) -> String,
+) -> Result<All, String> {
+    let found = functions(cache, table);
+    let without = shared(cache, table).count() - found.len();
+    let mut all =
+        All { table: self::table(table)?, functions: Vec::new(), refused: Vec::new(), without };
+    for (id, bytecode_array) in found {
+        let folder = folder_name(id, &name_of(id));
+        match function(cache, table, bytecode_array) {
+            Ok(files) => all.functions.push((folder, files)),
+            Err(message) => all.refused.push((folder, message)),
+        }
+    }
+    Ok(all)
+}
+
+impl All {
+    /// Writes `out/table` and a folder for each function, `prefix` before its name.
+    pub fn write(&self, out: &Path, prefix: &str) -> Result<(), String> {
+        put(&out.join("table"), &TABLE_FILES, &self.table)?;
+        for (folder, files) in &self.functions {
+            put(&out.join(format!("{prefix}{folder}")), &STORE_FILES, files)?;
+        }
+        Ok(())
+    }
 }
 
 /// What `write_all` did: the folders written, and those left out with the reason.
@@ -400,28 +497,17 @@ pub struct Written {
     pub refused: Vec<(String, String)>,
 }
 
-/// Writes `out/table` and a folder for each function, `out/NUMBER-NAME`. A function that the records cannot hold is left out and said; a
-/// table that they cannot hold is an error, and nothing is written.
+/// Writes `out/table` and a folder for each function, `out/NUMBER-NAME`. All files are made before the first is written.
 pub fn write_all(
     cache: &CodeCache,
     table: &VersionTable,
     name_of: impl Fn(ObjId) -> String,
     out: &Path,
 ) -> Result<Written, String> {
-    let files = self::table(table)?;
-    put(&out.join("table"), &TABLE_FILES, &files)?;
-    let mut written = Written::default();
-    for (id, bytecode_array) in functions(cache, table) {
-        let folder = folder_name(id, &name_of(id));
-        match function(cache, table, bytecode_array) {
-            Ok(files) => {
-                put(&out.join(&folder), &STORE_FILES, &files)?;
-                written.functions.push(folder);
-            }
-            Err(message) => written.refused.push((folder, message)),
-        }
-    }
-    Ok(written)
+    let all = all(cache, table, name_of)?;
+    all.write(out, "")?;
+    let functions = all.functions.into_iter().map(|(folder, _)| folder).collect();
+    Ok(Written { functions, refused: all.refused })
 }
 
 /// The object's number, so that no two are the same, and what of the name a file name can hold.

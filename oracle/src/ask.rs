@@ -122,7 +122,7 @@ struct Lent<'a> {
 }
 
 /// What long_listing lends.
-const LONG_OUTPUT: usize = 131_072;
+pub const LONG_OUTPUT: usize = 131_072;
 
 const ON_LAYOUT: u8 = 1 << LAYOUT;
 const ON_CODE: u8 = 1 << OPCODES | 1 << TYPES | 1 << LAYOUT;

@@ -9,10 +9,12 @@
 //! out of lists. named: listings with a name. v8, v8_lists: what V8 printed, as vectors.
 //! real: the same functions as record files. walks: the walk check from document 01, with vectors
 //! in walk_*. programs: what the programs are run on. header_recording: headers.
+//! printed: what V8 prints. caches: functions of real code caches beside it.
 //! entry_recording: entries of switches. slot_recording: slot records. wrong: recorded calls with
 //! one thing changed in each answer.
 
 pub mod ask;
+pub mod caches;
 pub mod cases;
 pub mod checks;
 pub mod classes;
@@ -28,6 +30,7 @@ pub mod list_recording;
 pub mod lists;
 pub mod named;
 pub mod port;
+pub mod printed;
 pub mod programs;
 pub mod random;
 pub mod real;

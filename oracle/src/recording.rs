@@ -155,8 +155,18 @@ mod tests {
             "header.vec",
             "layout.vec",
             "v8list.vec",
+            "caches.vec",
         ];
-        let rewalk = ["walk-1", "walk-2", "walk-3", "walk-4", "walk-5", "walk-few", "walk-v8"];
+        let rewalk = [
+            "walk-1",
+            "walk-2",
+            "walk-3",
+            "walk-4",
+            "walk-5",
+            "walk-few",
+            "walk-v8",
+            "walk-caches",
+        ];
         let rewalk = rewalk.map(|name| ("rewalk", name.to_owned() + ".vec"));
         let copies = replay.into_iter().chain(relist.map(|name| ("relist", name)));
         let copies = copies.map(|(held, name)| (held, name.to_owned()));

@@ -12,6 +12,8 @@ pub struct Program {
     pub name: &'static str,
     functions: &'static [usize],
     files: &'static [&'static str],
+    /// Recordings of real functions: of each the shortest calls are changed too, however long their tables are.
+    real: &'static [&'static str],
 }
 
 pub const PROGRAMS: [Program; 3] = [
@@ -34,6 +36,7 @@ pub const PROGRAMS: [Program; 3] = [
             SLOT_RECORDS,
         ],
         files: &["rows.vec", "store.vec", "code.vec", "slots.vec"],
+        real: &[],
     },
     Program {
         name: "relist",
@@ -56,11 +59,13 @@ pub const PROGRAMS: [Program; 3] = [
             "header.vec",
             "layout.vec",
         ],
+        real: &["caches.vec"],
     },
     Program {
         name: "rewalk",
         functions: &[WALK, WALK_CODE, WALK_LAST_BYTES],
         files: &["walk-1.vec", "walk-2.vec", "walk-few.vec"],
+        real: &["walk-caches.vec"],
     },
 ];
 
@@ -88,12 +93,13 @@ struct Chosen {
 pub fn record(program: &Program, folder: &Path) -> Result<WrongRecording, String> {
     let mut chosen: BTreeMap<(usize, String), Chosen> = BTreeMap::new();
     let mut number = 0;
-    for file in program.files {
+    for file in program.files.iter().chain(program.real) {
         let path = folder.join(file);
         let right = std::fs::read(&path).map_err(|e| format!("{}: {e}", path.display()))?;
+        let real = program.real.contains(file).then_some(*file);
         vectors::each(&right, |recorded| {
             number += 1;
-            choose(&mut chosen, program, number, recorded);
+            choose(&mut chosen, program, real, number, recorded);
             Ok(())
         })?;
     }
@@ -116,19 +122,21 @@ pub fn record(program: &Program, folder: &Path) -> Result<WrongRecording, String
     Ok(out)
 }
 
-/// Keeps a call where it is the shortest of a kind.
+/// Keeps a call where it is the shortest of a kind, or of a kind in a recording of real functions.
 fn choose(
     chosen: &mut BTreeMap<(usize, String), Chosen>,
     program: &Program,
+    real: Option<&str>,
     number: usize,
     recorded: &Recorded,
 ) {
     let call = &recorded.call;
     let weight = weight(recorded);
-    if !program.functions.contains(&call.function) || weight > LONGEST {
+    if !program.functions.contains(&call.function) || weight > LONGEST && real.is_none() {
         return;
     }
     for kind in kinds(call.function, recorded.said) {
+        let kind = real.map(|file| format!("{kind} in {file}")).unwrap_or(kind);
         let key = (call.function, kind);
         if chosen.get(&key).is_some_and(|held| held.weight <= weight) {
             continue;

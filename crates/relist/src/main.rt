@@ -35,7 +35,7 @@ fn main() {
     let jump = relist(b"jump.vec", false);
     let entry = relist(b"entry.vec", false);
     let headers = both(relist(b"header.vec", false), relist(b"layout.vec", false));
-    let v8 = relist(b"v8list.vec", false);
+    let v8 = both(relist(b"v8list.vec", false), relist(b"caches.vec", false));
     let lists = both(both(named, rows), both(list, v8));
     print_total(both(lists, both(both(jump, entry), headers)));
     print_wrong(relist(b"wrong.vec", false));

@@ -48,7 +48,10 @@ fn walks_2() -> Total {
 }
 
 fn walks_3() -> Total {
-    let v8 = rewalk(b"walk-v8.vec", false);
+    let v8 = both(
+        rewalk(b"walk-v8.vec", false),
+        rewalk(b"walk-caches.vec", false),
+    );
     let few = rewalk(b"walk-few.vec", false);
     both(v8, few)
 }

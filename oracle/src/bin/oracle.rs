@@ -1,6 +1,7 @@
 //! The oracle's command line (see README.md).
 
 use oracle::ask::{ask, Call, DECODE_SMI_BYTES, FUNCTIONS, LISTING, NO_OBJECT, WALK};
+use oracle::caches;
 use oracle::checks;
 use oracle::classes::{self, Classes};
 use oracle::port::{Port, STORE, TABLE};
@@ -31,6 +32,8 @@ const USAGE: &str = "usage:
   oracle record-wrong FOLDER PROGRAM OUT   write calls of FOLDER's recordings that PROGRAM asks, one thing changed in each answer
   oracle record-v8 FOLDER OUT         write vectors of what V8 printed (v8-listings), and count them
   oracle record-v8-list FOLDER OUT    write vectors of V8's whole listings, and count them
+  oracle record-caches EXPORTED PRINT LISTS WALKS   write vectors of the functions that export/cache wrote and V8 printed, and count them
+  oracle compare-caches EXPORTED PRINT LISTINGS ANSWERS   what batch wrote of such functions, against what V8 printed
   oracle record-named OUT             write vectors of some named listings, and print them
   oracle replay FILE                  ask every call of a vector file again
   oracle record-walk SEED OUT..       write vectors of the walk (five files), and count their classes
@@ -64,6 +67,12 @@ fn main() -> ExitCode {
         ["record-wrong", folder, program, out] => record_wrong(Path::new(folder), program, out),
         ["record-named", out] => record_named(out),
         ["record-v8-list", folder, out] => record_v8_list(Path::new(folder), out),
+        ["record-caches", folder, print, lists, walks] => {
+            record_caches([folder, print].map(Path::new), lists, walks)
+        }
+        ["compare-caches", folder, print, listings, answers] => {
+            compare_caches([folder, print, listings, answers].map(Path::new))
+        }
         ["record-v8", folder, out] => record_v8(Path::new(folder), out),
         ["replay", file] => replay(file),
         ["record-walk", seed, out @ ..] => record_walk(seed, out),
@@ -237,6 +246,22 @@ fn record_v8_list(folder: &Path, out: &str) -> Result<bool, String> {
     print!("{}", recording.report());
     println!("{} calls, {} bytes", vectors.calls, vectors.out.len());
     Ok(recording.differences.is_empty())
+}
+
+fn record_caches([folder, print]: [&Path; 2], lists: &str, walks: &str) -> Result<bool, String> {
+    let recording = caches::record(folder, print)?;
+    for (out, vectors) in [(lists, &recording.lists), (walks, &recording.walks)] {
+        std::fs::write(out, &vectors.out).map_err(|e| format!("{out}: {e}"))?;
+        println!("{out}: {} calls, {} bytes", vectors.calls, vectors.out.len());
+    }
+    print!("{}", recording.report());
+    Ok(recording.differences.is_empty())
+}
+
+fn compare_caches([folder, print, listings, answers]: [&Path; 4]) -> Result<bool, String> {
+    let comparison = caches::compare(folder, print, listings, answers)?;
+    print!("{}", comparison.report());
+    Ok(comparison.differences.is_empty())
 }
 
 fn record_named(out: &str) -> Result<bool, String> {
