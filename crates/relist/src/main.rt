@@ -82,7 +82,8 @@ fn counts_after(bytes: &[u8], files: Files, counts: Counts, item: Item) -> Count
     }
 }
 
-// A listing is asked of the call for C too, unless a file is longer than the listing program reads: then the program alone refuses.
+// A listing, a target and an entry are asked of their calls for C too; a listing not where a file is longer than the listing program reads: then
+// the program alone refuses.
 fn counts_call(bytes: &[u8], files: Files, counts: Counts, f: u8, body: Part) -> Counts {
     let call = lent(bytes, body);
     let after = counted(counts, f, asked(bytes, files, f, call));
@@ -95,6 +96,8 @@ fn counts_call(bytes: &[u8], files: Files, counts: Counts, f: u8, body: Part) ->
             }
         }
         22 => counted(after, 27, judged(for_c::long_list(bytes, files, call))),
+        8 => counted(after, 33, judged(for_c::target(bytes, files, call))),
+        24 => counted(after, 34, judged(for_c::entry(bytes, files, call))),
         _ => after,
     }
 }

@@ -95,7 +95,7 @@ fn counts_after(bytes: &[u8], files: Files, counts: Counts, item: Item, shows: b
     }
 }
 
-// The walks of object 0 are asked of the call for C too.
+// Each walk is asked of its call for C too.
 fn counts_call(
     bytes: &[u8],
     files: Files,
@@ -114,11 +114,14 @@ fn counts_call(
             );
             counted(after, 28, judged(walks::for_c(bytes, files, call)))
         }
-        20 => counted(
-            counts,
-            f,
-            judged(walks::of_code(bytes, files, call, number)),
-        ),
+        20 => {
+            let after = counted(
+                counts,
+                f,
+                judged(walks::of_code(bytes, files, call, number)),
+            );
+            counted(after, 32, judged(walks::code_for_c(bytes, files, call)))
+        }
         21 => {
             let after = counted(counts, f, judged(each::last_bytes(bytes, files, call)));
             with_codes(after, words::u32_at(call, 8) as u64 * 256)

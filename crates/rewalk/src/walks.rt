@@ -142,6 +142,50 @@ fn of_code_in(bytes: &[u8], files: Files, call: &[u8], number: u64, buffer: &mut
     answers::is_walked(behind(call, 16), walked, marks, code.len())
 }
 
+// 20, asked of the call for C.
+pub fn code_for_c(bytes: &[u8], files: Files, call: &[u8]) -> bool {
+    let mut buffer = [7u8; 65540];
+    code_for_c_in(bytes, files, call, &mut buffer)
+}
+
+fn code_for_c_in(bytes: &[u8], files: Files, call: &[u8], buffer: &mut [u8]) -> bool {
+    let n = words::u64_at(call, 8) as usize;
+    if buffer.len() < n {
+        return false;
+    }
+    let object = words::u64_at(call, 0);
+    let marks = first(buffer, n);
+    let code = file(bytes, files, 8);
+    let mut steps: usize = 7;
+    let mut place: usize = 7;
+    let status = capi::jscd_walk_code(
+        marks,
+        code,
+        file(bytes, files, 0),
+        file(bytes, files, 1),
+        file(bytes, files, 4),
+        file(bytes, files, 5),
+        file(bytes, files, 6),
+        file(bytes, files, 7),
+        lent_of(object),
+        object as usize,
+        &mut steps,
+        &mut place,
+    );
+    is_told(status, steps, place)
+        && answers::is_walked(
+            behind(call, 16),
+            told(status, steps, place),
+            marks,
+            code.len(),
+        )
+}
+
+// Whether an object is lent.
+fn lent_of(object: u64) -> u8 {
+    if object == NO_OBJECT { 0 } else { 1 }
+}
+
 pub fn walk_code(bytes: &[u8], files: Files, object: u64, code: &[u8], marks: &mut [u8]) -> Walked {
     walk::walk_code(
         marks,

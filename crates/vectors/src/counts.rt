@@ -10,9 +10,9 @@ pub enum Outcome {
 // Calls, differences and the first call that differs, by row: a function's number, or a call for C (`lines` names them). A call's number
 // counts from 1 in its file.
 pub struct Counts {
-    pub calls: [u64; 32],
-    pub differences: [u64; 32],
-    pub first: [u64; 32],
+    pub calls: [u64; 40],
+    pub differences: [u64; 40],
+    pub first: [u64; 40],
     pub number: u64,
     pub asked: u64,
     pub differing: u64,
@@ -25,9 +25,9 @@ pub struct Counts {
 pub const UNKNOWN: u8 = 31;
 
 pub fn no_counts() -> Counts {
-    let calls = [0u64; 32];
-    let differences = [0u64; 32];
-    let first = [0u64; 32];
+    let calls = [0u64; 40];
+    let differences = [0u64; 40];
+    let first = [0u64; 40];
     Counts {
         calls,
         differences,
@@ -90,7 +90,7 @@ fn with_not_here(mut counts: Counts) -> Counts {
 
 fn with_call(mut counts: Counts, row: usize) -> Counts {
     counts.asked = more(counts.asked);
-    if row < 32 {
+    if row < 40 {
         counts.calls[row] = more(counts.calls[row]);
     }
     counts
@@ -98,7 +98,7 @@ fn with_call(mut counts: Counts, row: usize) -> Counts {
 
 fn with_difference(mut counts: Counts, row: usize) -> Counts {
     counts.differing = more(counts.differing);
-    if row < 32 {
+    if row < 40 {
         if counts.differences[row] == 0 {
             counts.first[row] = counts.number;
         }

@@ -56,7 +56,7 @@ fn print_more(what: &[u8], n: u64) {
 
 fn print_rows(counts: Counts) {
     let mut row: usize = 0;
-    while row < 32 {
+    while row < 40 {
         print_row(
             row as u8,
             counts.calls[row],
@@ -161,6 +161,9 @@ fn print_other(row: u8) {
         27 => put(b"jscd_list"),
         28 => put(b"jscd_walk"),
         29 => put(b"jscd_decode"),
+        32 => put(b"jscd_walk_code"),
+        33 => put(b"jscd_target"),
+        34 => put(b"jscd_entry"),
         _ => put(b"unknown"),
     }
 }

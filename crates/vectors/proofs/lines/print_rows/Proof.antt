@@ -8,7 +8,7 @@ abbrev Inv-loop : tie.InvT-loop
 Inv-loop counts row₀ row = Unit {0}
 
 abbrev μ-loop : tie.MeasureT-loop
-μ-loop counts row₀ row = 32 - row
+μ-loop counts row₀ row = 40 - row
 
 loop-holds : tie.Need-loop-holds Inv-loop μ-loop
 loop-holds c = search needs
