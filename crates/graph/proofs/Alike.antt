@@ -1,0 +1,70 @@
+-- Two graphs that do alike, as computed tests say it, have one finding and the same marks. Assumes nothing.
+use Prim.Native.Nat.{ℕ, _<_}
+use mathlib.Core.Path.{_≡_, refl, sym, ap, _∙_, subst}
+use mathlib.Core.Bool.{Bool, true, false, cond}
+use mathlib.Core.List.{List}
+use mathlib.Core.Logic.{inl, inr}
+use lib.ListN.{length, getD}
+use Rattle.laws.proofs.Tests.{clash}
+use Rattle.graph.specs.Lists.{any, elem}
+use Rattle.graph.specs.Graph.{Graph, Good, Rising, isStart, isTo, Succ, Finding, exits, finding, marked, bits, markList}
+use Rattle.graph.specs.mirror.Right.{Mark, Marked, Answer}
+use Rattle.graph.proofs.Lists.{any-among, among-any}
+use Rattle.graph.proofs.Levels.{exits-sound, exits-complete}
+use Rattle.graph.proofs.Findings.{finding-meets}
+use Rattle.graph.proofs.Marks.{marked-is, bits-length, bits-at}
+use Rattle.graph.proofs.Answers.{found}
+use Rattle.graph.proofs.Same.{Less, answer-same}
+
+-- one list of starts; from each start both go to the same starts, and both leave or neither does
+pub record Alike (g g′ : Graph) : Type 0 where
+  pub starts : g .starts ≡ g′ .starts
+  pub goes : (o t : ℕ) → isStart g o ≡ true → isStart g t ≡ true → any (isTo t) (g .steps o) ≡ any (isTo t) (g′ .steps o)
+  pub leaves : (o : ℕ) → isStart g o ≡ true → exits g o ≡ exits g′ o
+
+same-start : (g g′ : Graph) → g .starts ≡ g′ .starts → (t : ℕ) → isStart g t ≡ isStart g′ t
+unfolding isStart
+same-start g g′ e t = ap (elem t) e
+
+pub alike-back : {g g′ : Graph} → Alike g g′ → Alike g′ g
+alike-back {g} {g′} a =
+    let s = same-start g g′ (a .starts) in
+    record { starts = sym (a .starts); goes = λ o t h i. sym (a .goes o t (s o ∙ h) (s t ∙ i)); leaves = λ o h. sym (a .leaves o (s o ∙ h)) }
+
+pub alike-less : {g g′ : Graph} → Alike g g′ → Less g g′
+alike-less {g} {g′} a = record {
+  starts = a .starts;
+  goes = λ o t h s.
+      let x = any-among (isTo t) (g′ .steps o) (sym (a .goes o t h (s .start)) ∙ among-any (isTo t) (s .among) (s .goes)) in
+      record { step = x .0; among = x .1; goes = x .2; start = sym (same-start g g′ (a .starts) t) ∙ s .start };
+  leaves = λ o h x. exits-sound g′ o (sym (a .leaves o h) ∙ exits-complete x);
+}
+
+-- the computed finding and marks are right
+answer-is : {g : Graph} → Good g → (n : ℕ) → Answer g n (markList g (finding g) n) (finding g)
+unfolding markList
+answer-is {g} G n = record { claim = finding-meets G; marks = λ p l. subst (λ (v : ℕ). Mark v (Marked g (finding g) p)) (sym (bits-at (marked g (finding g)) n p l)) (mark p) }
+  where
+    by : (p : ℕ) (b : Bool) → marked g (finding g) p ≡ b → Mark (cond b 1 0) (Marked g (finding g) p)
+    by p true e = inl (refl, marked-is g p (finding g) .0 e)
+    by p false e = inr (refl, λ x. clash (marked-is g p (finding g) .1 x) e)
+
+    mark : (p : ℕ) → Mark (cond (marked g (finding g) p) 1 0) (Marked g (finding g) p)
+    mark p = by p (marked g (finding g) p) refl
+
+marks-length : (g : Graph) (f : Finding) (n : ℕ) → length (markList g f n) ≡ n
+unfolding markList
+marks-length g f n = bits-length (marked g f) 0 n
+
+module _ {g g′ : Graph} (G : Good g) (a : Alike g g′) where
+  good-too : Good g′
+  good-too = record { rising = subst (Rising 0) (a .starts) (G .rising) }
+
+  both : (n : ℕ) → (finding g ≡ finding g′) × (markList g (finding g) n ≡ markList g′ (finding g′) n)
+  both n = found good-too (marks-length g (finding g) n) (answer-same (alike-less a) (alike-less (alike-back a)) (answer-is G n))
+
+  pub finding-alike : finding g ≡ finding g′
+  finding-alike = both 0 .0
+
+  pub marks-alike : (n : ℕ) → markList g (finding g) n ≡ markList g′ (finding g′) n
+  marks-alike n = both n .1
