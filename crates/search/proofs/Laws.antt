@@ -21,7 +21,6 @@ use Rattle.graph.specs.mirror.Right.{Answer}
 use Rattle.graph.proofs.Lists.{or-left, or-right, any-among, among-any, none-among}
 use Rattle.graph.proofs.Queues.{zero-at, grown-none, grown-join, grown-same}
 use Rattle.graph.proofs.Answers.{found}
-use Rattle.graph.proofs.Alike.{Alike, finding-alike, marks-alike}
 use Rattle.targets.specs.Targets.{smiOf, targetFrom}
 use Rattle.search.specs.declared.Searched.{Searched}
 use Rattle.search.specs.mirror.Kept.{sizeOf, hereOf, shown, entriesFrom, targetSteps, tableSteps, onSteps, places, keptGraph, offHeads, Goes, Below, findingAs, IsFound}
@@ -37,7 +36,7 @@ module _ {A : Type 0} (p : A → Bool) where
       grouped true b c = refl
       grouped false b c = refl
 
-  any-same : {q : A → Bool} → ((x : A) → p x ≡ q x) → (l : List A) → any p l ≡ any q l
+  pub any-same : {q : A → Bool} → ((x : A) → p x ≡ q x) → (l : List A) → any p l ≡ any q l
   any-same h [] = refl
   any-same {q} h (x ∷ l) = ap (λ (b : Bool). b || any p l) (h x) ∙ ap (λ (b : Bool). q x || b) (any-same h l)
 
@@ -320,10 +319,6 @@ module _ (el : ℕ → Elem) (heads words : List ℕ) where
     where
       never : {m p : ℕ} → Leaving (keptGraph el heads words) m p → ⊥
       never (leave r x) = not-reached e r
-
-  -- and so of any graph that does alike
-  pub kept-found : (g : Graph) → Good g → Alike g (keptGraph el heads words) → (n : ℕ) (r : Searched) (M : List ℕ) → IsFound (keptGraph el heads words) n r M → IsFound g n r M
-  kept-found g G a n r M f = (f .0 ∙ sym (finding-alike G a), f .1 ∙ sym (marks-alike G a n))
 
 -- ---- a part of no step, or of one, at a place whose head was read
 pub leaves-nothing : (heads : List ℕ) {l : List Step} → l ≡ [] → false ≡ any (offHeads heads) l

@@ -1,9 +1,9 @@
--- Law `kept-found` (proofs/Laws.antt): what is found of a kept graph is what is found of any graph that does alike. No contract of a call cites it.
+-- Law `kept-found` (proofs/Kept.antt): what is found of a kept graph is what is found of any graph that does alike. No contract of a call cites it.
 -- A graph that lies in lent numbers. Of the n bytes of a code each has a head: 0 where no instruction starts, else size + 256 * form, where the
 -- form is a sum of 1 (it goes on to its end), 2 (it goes to a target), 4 (it goes to the entries of a table) and 8 (distances count from behind a
 -- prefix). Of a target the word at the instruction's offset is the place; of a table the number of its first element, and the word behind that is how many
 -- entries it has. "No target" is a place where nothing starts.
-use Prim.Native.Nat.{ℕ, zero, suc, _+_, _/_, _%_, _≤_}
+use Prim.Native.Nat.{ℕ, zero, suc, _+_, _/_, _%_, _≤_, _<_, min}
 use mathlib.Core.Path.{_≡_}
 use mathlib.Core.Bool.{Bool, true, cond}
 use mathlib.Core.List.{List, [], _∷_, _++_}
@@ -66,6 +66,15 @@ jumps el words o h = targetSteps words o h ++ tableSteps el words o h
 unfoldable pub onSteps : ℕ → ℕ → List Step
 onSteps o h = cond (goesOn h) (To (o + sizeOf h) ∷ []) []
 
+-- the steps of an instruction at o with head h
+abbrev pub keptSteps : (ℕ → Elem) → List ℕ → ℕ → ℕ → List Step
+keptSteps el words o h = jumps el words o h ++ onSteps o h
+
+-- the word that keeps a step: the place, or one where nothing starts
+abbrev pub wordOf : Step → ℕ
+wordOf (To t) = min t 4294967295
+wordOf NoTarget = 4294967295
+
 -- ---- the graph
 -- the offsets from i on that have a head
 unfoldable pub places : ℕ → List ℕ → List ℕ
@@ -73,7 +82,7 @@ places i [] = []
 places i (h ∷ hs) = cond (eqb h 0) (places (suc i) hs) (i ∷ places (suc i) hs)
 
 unfoldable pub keptGraph : (ℕ → Elem) → List ℕ → List ℕ → Graph
-keptGraph el heads words = record { starts = places 0 heads; steps = λ o. jumps el words o (getD heads o 0) ++ onSteps o (getD heads o 0) }
+keptGraph el heads words = record { starts = places 0 heads; steps = λ o. keptSteps el words o (getD heads o 0) }
 
 -- with the pool's elements as the code searches them
 abbrev pub graphBy : List ℕ → List ℕ → ℕ → Pool → List ℕ → List ℕ → Graph
@@ -91,7 +100,7 @@ Goes l t = any (isTo t) l ≡ true
 
 -- all of them go to places below n
 abbrev pub Below : List Step → ℕ → Type 0
-Below l n = (t : ℕ) → Goes l t → suc t ≤ n
+Below l n = (t : ℕ) → Goes l t → t < n
 
 abbrev pub foundAs : Found → Option ℕ
 foundAs (found-as.At o) = some o
