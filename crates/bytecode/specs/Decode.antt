@@ -8,6 +8,7 @@ use Rattle.refusal.specs.declared.Refusal.{Refusal}
 use Rattle.refusal.specs.Check.{firstRefusal, refuseUnless, guarded}
 use Rattle.tables.specs.Check.{checkTable}
 use Rattle.tables.specs.Layout.{signedValue}
+use Rattle.flow.specs.Opcodes.{opcodesOf}
 use Rattle.decoder.specs.declared.Outcome.{Outcome}
 use Rattle.decoder.specs.declared.Decoded.{Decoded}
 use Rattle.decoder.specs.Head.{blank}
@@ -24,4 +25,5 @@ refusedBy r = record { outcome = Outcome.Refused r; instr = blank }
 -- it is lent no name files
 unfoldable pub decodeOne : List ℕ → List ℕ → List ℕ → List ℕ → ℕ → Decoded
 decodeOne ops types layout code start =
-    guarded (firstRefusal (checkTable ops types [] [] layout) (checkCode code)) refusedBy (decodes code ops types (signedValue layout 13) start)
+    guarded (firstRefusal (checkTable ops types [] [] layout) (checkCode code)) refusedBy
+    (decodes code (opcodesOf ops) types (signedValue layout 13) start)

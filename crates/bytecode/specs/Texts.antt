@@ -10,7 +10,8 @@ use Rattle.text.specs.Texts.{decimal, signedDecimal}
 use Rattle.tables.specs.declared.ParamBase.{ParamBase}
 use Rattle.tables.specs.declared.ParamBase.the-variants as base
 use Rattle.tables.specs.declared.Frame.{Frame}
-use Rattle.tables.specs.Texts.{opName, typeName, runtimeName, intrinsicName}
+use Rattle.tables.specs.Texts.{typeName, runtimeName, intrinsicName}
+use Rattle.flow.specs.Opcodes.{Opcodes}
 use Rattle.operand.specs.declared.Operand.{Operand}
 use Rattle.operand.specs.declared.Operand.the-variants.{Nothing, Reg, RegList, Imm, Idx, Flag8, Flag16, RuntimeId, IntrinsicId, Raw}
 
@@ -57,5 +58,5 @@ operandText files frame params (IntrinsicId v) = ascii "[_" ++ intrinsicName (fi
 operandText files frame params (Raw ty v) = typeName (files .types) ty ++ ascii ":" ++ decimal v
 
 -- V8: Bytecodes::ToString(bytecode, scale, "."): the plain name, and the prefix behind a dot
-unfoldable pub instrName : List ℕ → ℕ → ℕ → List ℕ
-instrName ops opcode scale = opName ops opcode ++ cond (eqb scale 1) [] (cond (eqb scale 2) (ascii ".Wide") (ascii ".ExtraWide"))
+unfoldable pub instrName : Opcodes → ℕ → ℕ → List ℕ
+instrName ops opcode scale = ops .name opcode ++ cond (eqb scale 1) [] (cond (eqb scale 2) (ascii ".Wide") (ascii ".ExtraWide"))

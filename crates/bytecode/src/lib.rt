@@ -12,13 +12,17 @@ ghost use Rattle.text.specs.Put.{Put};
 ghost use Rattle.text.specs.Texts.{decimal, signedDecimal};
 ghost use Rattle.tables.specs.Texts.{typeName, runtimeName, intrinsicName};
 ghost use Rattle.tables.specs.Layout.{signedValue};
+ghost use Rattle.flow.specs.Opcodes.{opcodesOf};
 ghost use Rattle.decoder.specs.Listed.{decodes};
 ghost use Rattle.bytecode.specs.Texts.{parameterIndex, paramName, regName, listName, operandText, instrName};
 ghost use Rattle.bytecode.specs.Decode.{checkCode, decodeOne};
+ghost use Rattle.bytecode.specs.Numbers.{decodedNumbers};
 
 // The instruction at place start of lent code: rows 1 to 5 and 10, then 20 and 11 to 15; "end" at the code's length.
 pub fn decode(opcodes: &[u8], types: &[u8], layout: &[u8], code: &[u8], start: usize) -> Decoded
-    ensures { λ r. ⌜ r ≡ decodeOne (now (opcodes .entry)) (now (types .entry)) (now (layout .entry)) (now (code .entry)) start ⌝ }
+    ensures { λ r. ⌜ (decodedNumbers start r
+        ≡ decodedNumbers start (decodeOne (now (opcodes .entry)) (now (types .entry)) (now (layout .entry)) (now (code .entry)) start))
+        × (r .instr ≡ (decodeOne (now (opcodes .entry)) (now (types .entry)) (now (layout .entry)) (now (code .entry)) start) .instr) ⌝ }
 {
     let table = tables::check_table(opcodes, types, b"", b"", layout);
     match refusal::first_refusal(table, check_code(code)) {
@@ -26,7 +30,7 @@ pub fn decode(opcodes: &[u8], types: &[u8], layout: &[u8], code: &[u8], start: u
             outcome: Outcome::Refused(refusal),
             instr: decoder::blank_instr(),
         },
-        Check::Ok => decode_with(opcodes, types, layout, code, start),
+        Check::Ok => decode_unchecked(opcodes, types, layout, code, start),
     }
 }
 
@@ -63,7 +67,8 @@ pub fn render_operand(
     params: i32,
     op: Operand,
 ) -> usize
-    ensures { λ r. ⌜ Put (now (out .entry)) at (operandText (record { types = now (types .entry); runtime = now (runtime .entry); intrinsic = now (intrinsic .entry) }) frame params op) (now (out .exit)) r ⌝ }
+    ensures { λ r. ⌜ Put (now (out .entry)) at (operandText
+        (record { types = now (types .entry); runtime = now (runtime .entry); intrinsic = now (intrinsic .entry) }) frame params op) (now (out .exit)) r ⌝ }
 {
     match op {
         Operand::Nothing => text::saturating_add(at, 0),
@@ -81,7 +86,7 @@ pub fn render_operand(
 
 // An instruction's name, with its prefix.
 pub fn instr_name(out: &mut [u8], at: usize, opcodes: &[u8], opcode: u8, scale: u8) -> usize
-    ensures { λ r. ⌜ Put (now (out .entry)) at (instrName (now (opcodes .entry)) opcode scale) (now (out .exit)) r ⌝ }
+    ensures { λ r. ⌜ Put (now (out .entry)) at (instrName (opcodesOf (now (opcodes .entry))) opcode scale) (now (out .exit)) r ⌝ }
 {
     let p = text::put_bytes(out, at, tables::op_name(opcodes, opcode));
     if scale == 1 {
@@ -183,14 +188,15 @@ fn put_raw(out: &mut [u8], at: usize, types: &[u8], ty: u8, value: u64) -> usize
 }
 
 // The instruction at place start, by the prefix opcodes and the layout's reg_file_start.
-pub fn decode_with(
+pub fn decode_unchecked(
     opcodes: &[u8],
     types: &[u8],
     layout: &[u8],
     code: &[u8],
     start: usize,
 ) -> Decoded
-    ensures { λ r. ⌜ r ≡ decodes (now (code .entry)) (now (opcodes .entry)) (now (types .entry)) (signedValue (now (layout .entry)) 13) start ⌝ }
+    ensures { λ r. ⌜ r ≡ decodes (now (code .entry)) (opcodesOf (now (opcodes .entry))) (now (types .entry))
+        (signedValue (now (layout .entry)) 13) start ⌝ }
 {
     let prefixes = tables::prefix_ops(opcodes);
     let layout = tables::layout_of(layout);

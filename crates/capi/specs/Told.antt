@@ -1,9 +1,10 @@
 -- The answers of the calls as numbers, for C.
 use Prim.Native.Nat.{ℕ, _-_, _/_, _%_, _^_, _<_}
 use mathlib.Core.Path.{_≡_}
-use mathlib.Core.List.{List}
+use mathlib.Core.List.{List, [], _∷_}
 use mathlib.Core.Bool.{cond}
 use lib.Dec.{eqb}
+use lib.IntN.{ℤ, natAbs}
 use lib.ListN.{getD}
 use Rattle.words.specs.Signed.{modulo}
 use Rattle.operand.specs.declared.Operand.{Operand}
@@ -12,28 +13,23 @@ use Rattle.decoder.specs.declared.Instr.{Instr}
 use Rattle.decoder.specs.declared.Outcome.{Outcome}
 use Rattle.decoder.specs.declared.Decoded.{Decoded}
 use Rattle.targets.specs.Targets.{operandOf}
-use Rattle.disasm.specs.declared.Listed.{Listed}
-use Rattle.disasm.specs.declared.Listed.the-variants as listed-as
+use Rattle.text.specs.declared.Written.{Written}
+use Rattle.text.specs.Numbers.{writtenNumbers}
 use Rattle.walk.specs.declared.Walked.{Walked}
-use Rattle.walk.specs.declared.Walked.the-variants as walked
+use Rattle.walk.specs.Numbers.{walkedNumbers}
 
--- 01: "An answer, or a refusal: its number and a place". An answer is number 0, and its place is the listing's length. Then the buffer.
-abbrev pub toldAs : Listed → List ℕ → ℕ × ℕ × List ℕ
-toldAs (listed-as.Done n) o = (0, n, o)
-toldAs (listed-as.Refused r) o = (r .number, r .place, o)
+-- The answer of a listing in 01's numbers, as it is told: its number, and its place, which of an answer is the listing's length; then the buffer.
+abbrev pub listTold : Written × List ℕ → ℕ × ℕ × List ℕ
+listTold a = let n = writtenNumbers (a .0) in (n .number, n .place, a .1)
 
-abbrev pub listTold : Listed × List ℕ → ℕ × ℕ × List ℕ
-listTold a = toldAs (a .0) (a .1)
+-- the steps that a walk check's numbers tell: their value, or 0 where they have none
+abbrev pub stepsIn : List ℤ → ℕ
+stepsIn [] = 0
+stepsIn (v ∷ vs) = natAbs v
 
--- The answer of a walk check, the steps, the place, and the marks. 01's "closed" is 0; its "leaves" is 254, with the steps and the offset
--- left from. Where none are told, steps and place are 0.
-abbrev pub walkToldAs : Walked → List ℕ → ℕ × ℕ × ℕ × List ℕ
-walkToldAs walked.Closed m = (0, 0, 0, m)
-walkToldAs (walked.Leaves n o) m = (254, n, o, m)
-walkToldAs (walked.Refused r) m = (r .number, 0, r .place, m)
-
+-- The answer of a walk check in 01's numbers, as it is told: its number, the steps, the place; then the marks.
 abbrev pub walkTold : Walked × List ℕ → ℕ × ℕ × ℕ × List ℕ
-walkTold a = walkToldAs (a .0) (a .1)
+walkTold a = let n = walkedNumbers (a .0) in (n .number, stepsIn (n .values), n .place, a .1)
 
 -- an operand's kind
 abbrev pub kindNumber : Operand → ℕ

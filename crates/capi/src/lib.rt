@@ -3,8 +3,8 @@
 
 use decoder::Instr;
 use decoder::Outcome;
-use disasm::Listed;
 use operand::Operand;
+use text::Written;
 use walk::Walked;
 ghost use mathlib.Core.Path.{_≡_};
 ghost use Prim.Native.Nat.{_^_};
@@ -44,11 +44,11 @@ pub extern "C" fn jscd_list(
         object,
     );
     match listed {
-        Listed::Done(n) => {
+        Written::Done(n) => {
             *place = n;
             0
         }
-        Listed::Refused(r) => {
+        Written::Refused(r) => {
             *place = r.place;
             r.number
         }

@@ -6,7 +6,7 @@ use Rattle.words.specs.Le.{leAt}
 use Rattle.words.specs.Signed.{modulo, wrap32, signed}
 use Rattle.text.specs.Texts.{decimal, lastDigits, hexDigit, hexByte}
 use Rattle.tables.specs.Names.{nameOk, nameAt, isNamed}
-use Rattle.tables.specs.Records.{width, prefixOp, typeNames, nameFits, sizeGood, sizeFits, opcodeOk}
+use Rattle.tables.specs.Records.{width, firstMarked, typeNames, nameFits, sizeGood, sizeFits, opcodeOk}
 use Rattle.tables.specs.Layout.{ranges, rangeOf, layoutOf}
 use Rattle.tables.specs.Texts.{runtimeName}
 use Rattle.tables.specs.Check.{wholeRecords, checkTable}
@@ -30,7 +30,7 @@ use Rattle.cases.specs.Rows.{told, asked, rows}
 -- P1 to P12
 pub cases : map told asked ≡ rows
 unfolding told asked rows opcodes opcode typed types padded four fours layout checkTable wholeRecords within firstFrom nameOk opcodeOk sizeFits sizeGood nameFits isNamed
-    typeNames ranges rangeOf layoutOf decodeOne decodeAt headAt prefixOp readParts partsFrom width isList kinds kindOf ofKind interpret leAt modulo wrap32
+    typeNames ranges rangeOf layoutOf decodeOne decodeAt headAt firstMarked readParts partsFrom width isList kinds kindOf ofKind interpret leAt modulo wrap32
     signed lineBy operandsBy hexByte hexDigit flatMap nameAt decimal lastDigits runtimeName paramName regName listName operandText instrName targetCall targetOf
     flowNames flows flowNumber flowBy poolElem operandOf indexOf numberOf distanceBy jumpTarget jumpTable tableBy sizedBy walkLent walkSource listFrom
     switchCheck walkGraph stepsAt instrSteps entriesSteps finding firstExit level after exits isStart markList marked reached bits

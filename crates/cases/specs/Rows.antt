@@ -22,6 +22,7 @@ use Rattle.walk.specs.declared.Walked.{Walked}
 use Rattle.walk.specs.declared.Walked.the-variants as walked-as
 use Rattle.walk.specs.Walk.{walkLent}
 use Rattle.sample.specs.Sample.{opcodes, types, layout}
+use Rattle.flow.specs.Opcodes.{opcodesOf}
 
 -- what a row asks of a code: the instruction at a place; the line of its first instruction; that one's target; its walks, over a mark buffer
 -- of so many sevens
@@ -47,7 +48,7 @@ files = record { opcodes = opcodes; types = types; runtime = []; intrinsic = [];
 abbrev pub view : List ℕ → View
 view code = record {
   code = code;
-  opcodes = opcodes;
+  opcodes = opcodesOf opcodes;
   names = record { types = types; runtime = []; intrinsic = [] };
   frame = layoutOf layout .frame;
   params = pos 1;

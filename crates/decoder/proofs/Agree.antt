@@ -1,5 +1,5 @@
 -- The step-by-step definition of an instruction is V8's and 01's: `decoded`. Assumes nothing.
-use Prim.Native.Nat.{ℕ, zero, suc, _+_, _/_, _%_, _^_, _<_, _≤_, min}
+use Prim.Native.Nat.{ℕ, zero, suc, _+_, _%_, _^_, _<_, _≤_, min}
 use mathlib.Core.Path.{_≡_, refl, sym, ap, _∙_}
 use mathlib.Core.Bool.{Bool, true, false, cond, _&&_}
 use mathlib.Core.List.{List, [], _∷_, _++_, map, append-assoc, append-nil}
@@ -15,7 +15,8 @@ use Rattle.laws.proofs.Tests.{and-left}
 use Rattle.laws.proofs.Scan.{first-shift}
 use Rattle.refusal.specs.declared.Refusal.{Refusal}
 use Rattle.refusal.specs.Check.{refusalAt}
-use Rattle.tables.specs.Records.{opByte, operandCount, width}
+use Rattle.tables.specs.Records.{width}
+use Rattle.flow.specs.Opcodes.{Opcodes}
 use Rattle.operand.specs.Operand.{isList, interpret}
 use Rattle.operand.specs.mirror.Step.{isCounted, valueAt, operandAt}
 use Rattle.operand.specs.declared.Operand.{Operand}
@@ -36,17 +37,17 @@ more-records (suc n) [] o h = refl
 more-records (suc n) (x ∷ os) o h = ap (λ (l : List OperandRecord). recordOf x ∷ l) (more-records n os o (le-of-suc-le-suc h))
 
 -- ---- what reading one type after the other gives
-data Got : Type 0 where
+pub data Got : Type 0 where
   bad : Refusal → Got
   good : ℕ → List Operand → Got
 
-abbrev add : Operand → Got → Got
+abbrev pub add : Operand → Got → Got
 add o (bad r) = bad r
 add o (good e os) = good e (o ∷ os)
 
 module _ (code types : List ℕ) (scale : ℕ) (rfs : ℤ) where
   -- the number of w bytes at a place
-  abbrev value : ℕ → ℕ → ℕ
+  abbrev pub value : ℕ → ℕ → ℕ
   value at w = leAt code at w
 
   -- a width is at most 8
@@ -54,7 +55,7 @@ module _ (code types : List ℕ) (scale : ℕ) (rfs : ℤ) where
   unfolding valueAt width
   value-is at t = let e : min (width types t scale) 8 ≡ width types t scale = omega arith in rw e
 
-  got : Bool → ℕ → List ℕ → Got
+  unfoldable pub got : Bool → ℕ → List ℕ → Got
   got after at [] = good at []
   got after at (t ∷ ts) =
       let w = width types t scale in
@@ -73,10 +74,10 @@ module _ (code types : List ℕ) (scale : ℕ) (rfs : ℤ) where
   runList [] s = s
   runList (t ∷ ts) s = runList ts (stepOps code types scale rfs t s)
 
-  run-list : (opcodes : List ℕ) (opcode n k : ℕ) (s : Operands) → runOps code opcodes types opcode scale rfs n k s ≡ runList (codesFrom opcodes opcode k n) s
+  run-list : (opcodes : Opcodes) (opcode n k : ℕ) (s : Operands) → runOps code opcodes types opcode scale rfs n k s ≡ runList (codesFrom opcodes opcode k n) s
   unfolding runOps runList
   run-list opcodes opcode zero k s = refl
-  run-list opcodes opcode (suc n) k s = run-list opcodes opcode n (k + 1) (stepOps code types scale rfs (opByte opcodes opcode (42 + k)) s)
+  run-list opcodes opcode (suc n) k s = run-list opcodes opcode n (k + 1) (stepOps code types scale rfs (opcodes .code opcode k) s)
 
   -- operands that are read as far as place at
   abbrev state : ℕ → ℕ → List Operand → Operands
@@ -88,7 +89,7 @@ module _ (code types : List ℕ) (scale : ℕ) (rfs : ℤ) where
   run-stopped (u ∷ ts) r t s = run-stopped ts r t s
 
   module _ (start opcode : ℕ) where
-    abbrev ofGot : List Operand → Got → Decoded
+    abbrev pub ofGot : List Operand → Got → Decoded
     ofGot os (bad r) = record { outcome = Outcome.Refused r; instr = blank }
     ofGot os (good e more) = record { outcome = Outcome.Done; instr = instrOf start opcode scale e (os ++ more) }
 
@@ -97,7 +98,7 @@ module _ (code types : List ℕ) (scale : ℕ) (rfs : ℤ) where
     of-add os o (good e more) = rw (append-assoc os (o ∷ []) more)
 
     -- the first short operand is the answer
-    pub run-short : (opcodes : List ℕ) (n k : ℕ) (r : Refusal) (t : ℕ) (s : Operands)
+    pub run-short : (opcodes : Opcodes) (n k : ℕ) (r : Refusal) (t : ℕ) (s : Operands)
         → ofOps start opcode scale (runOps code opcodes types opcode scale rfs n k (afterStep (Short r) t s)) ≡ record { outcome = Outcome.Refused r; instr = blank }
     run-short opcodes n k r t s = ap (ofOps start opcode scale) (run-list opcodes opcode n k (afterStep (Short r) t s) ∙ run-stopped (codesFrom opcodes opcode k n) r t s)
 
@@ -148,16 +149,16 @@ module _ (code types : List ℕ) (scale : ℕ) (rfs : ℤ) where
             rw (value-is at t, value-is (at + w) 8) (on (interpret t (value at w) w (value (at + w) cw % 2 ^ 32) rfs) (at + w + cw) true f rest)
 
     -- ---- and that is what V8's offsets give: parts from place at on, behind operands os, of which part k is the first that is short
-    abbrev upTo : List Operand → ℕ → List Part → ℕ → Decoded
+    abbrev pub upTo : List Operand → ℕ → List Part → ℕ → Decoded
     upTo os at ps k =
         let ws = map (partWidth types scale) ps in
         cond (ltb k (length ps)) (refusedAt (shortNumber (getD ps k count)) (at + offsetOf ws k))
         (record { outcome = Outcome.Done; instr = instrOf start opcode scale (at + offsetOf ws (length ps)) (os ++ operandsFrom code ws at rfs 0 ps) })
 
-    abbrev firstShort : ℕ → List Part → ℕ
+    abbrev pub firstShort : ℕ → List Part → ℕ
     firstShort at ps = firstFrom (isShort code (map (partWidth types scale) ps) at) 0 (length ps)
 
-    readWith : List Operand → ℕ → List Part → Decoded
+    unfoldable pub readWith : List Operand → ℕ → List Part → Decoded
     readWith os at ps = upTo os at ps (firstShort at ps)
 
     module _ (at w : ℕ) (ws : List ℕ) where
@@ -233,7 +234,7 @@ module _ (code types : List ℕ) (scale : ℕ) (rfs : ℤ) where
           let y : at + (width types t scale + 0) ≡ at + width types t scale = omega arith in
           rw (f, y, z)
 
-    parts-got : (ts : List ℕ) (after : Bool) (at : ℕ) (os : List Operand) → ofGot os (got after at ts) ≡ readWith os at (partsFrom after ts)
+    pub parts-got : (ts : List ℕ) (after : Bool) (at : ℕ) (os : List Operand) → ofGot os (got after at ts) ≡ readWith os at (partsFrom after ts)
     unfolding got partsFrom readWith firstFrom
     parts-got [] after at os = let z : at + 0 ≡ at = omega arith in rw z
     parts-got (t ∷ ts) after at os =
@@ -269,24 +270,25 @@ module _ (code types : List ℕ) (scale : ℕ) (rfs : ℤ) where
             ∙ ap (λ (l : List Operand). readWith l (at + tw + cw) (partsFrom true ts)) (append-nil os′)
             ∙ ap (λ (x : Operand). readWith (os ++ (x ∷ [])) (at + tw + cw) (partsFrom true ts)) (list-head t at ws′ f))
 
-codes-length : (ops : List ℕ) (op k n : ℕ) → length (codesFrom ops op k n) ≡ n
+codes-length : (ops : Opcodes) (op k n : ℕ) → length (codesFrom ops op k n) ≡ n
 codes-length ops op k zero = refl
 codes-length ops op k (suc n) = ap suc (codes-length ops op (k + 1) n)
 
-opened : (code ops types : List ℕ) (start : ℕ) (rfs : ℤ) (opcode scale at : ℕ)
+opened : (code : List ℕ) (ops : Opcodes) (types : List ℕ) (start : ℕ) (rfs : ℤ) (opcode scale at : ℕ)
     → ofOps start opcode scale (operandsAt code ops types opcode scale rfs at) ≡ readParts code types scale opcode rfs start at (partsFrom false (operandTypes ops opcode))
 unfolding readParts readWith isList
 opened code ops types start rfs opcode scale at =
-    let n = min (operandCount ops opcode) 8 in
+    let n = min (ops .operands opcode) 8 in
     let room : 0 + length (operandTypes ops opcode) ≤ 8 = omega (arith, codes-length ops opcode 0 n) in
     ap (ofOps start opcode scale) (run-list code types scale rfs ops opcode n 0 (startOps at))
     ∙ steps-got code types scale rfs start opcode (operandTypes ops opcode) at 0 [] room
     ∙ parts-got code types scale rfs start opcode (operandTypes ops opcode) false at []
 
 -- the code's steps are V8's and 01's decoding
-pub decoded : (code ops types : List ℕ) (start : ℕ) (rfs : ℤ) (wide extra : ℕ) → stepsAt code ops types start rfs wide extra ≡ decodeAt code ops types start rfs wide extra
+pub decoded : (code : List ℕ) (ops : Opcodes) (types : List ℕ) (start : ℕ) (rfs : ℤ) (wide extra : ℕ)
+    → stepsAt code ops types start rfs wide extra ≡ decodeAt code ops types start rfs wide extra
 unfolding decodeAt
-decoded code ops types start rfs wide extra = go (headAt code (length ops / 64) start wide extra)
+decoded code ops types start rfs wide extra = go (headAt code (ops .many) start wide extra)
   where
     go : (h : Head) → ofHead h code ops types start rfs ≡ decodeHead h code ops types start rfs
     go Head.End = refl

@@ -6,7 +6,8 @@ use native.Mathlib.Omega.{arith}
 use lib.IntN.{pos, negsuc}
 use lib.ListN.{length, getD, replicate}
 use Rattle.laws.specs.Scan.{firstFrom}
-use Rattle.tables.specs.Records.{prefixOp}
+use Rattle.tables.specs.Records.{firstMarked}
+use Rattle.flow.specs.Opcodes.{opcodesOf}
 use Rattle.operand.specs.declared.Operand.the-variants.{RegList, Imm, RuntimeId}
 use Rattle.decoder.specs.declared.Outcome.{Outcome}
 use Rattle.decoder.specs.Decode.{instrOf}
@@ -38,8 +39,8 @@ scalables (suc n) = replicate 28 0x41 ++ (1 ∷ 1 ∷ 1 ∷ 0 ∷ scalables n)
 abbrev types : List ℕ
 types = scalables 15 ++ replicate 28 0x41 ++ (2 ∷ 0 ∷ 1 ∷ 0 ∷ scalables 1)
 
-form-runtime : V8Form v8 ops types 0x00 0x03
-unfolding prefixOp firstFrom codeOf typeInfo isScalable unscaledSize
+form-runtime : V8Form v8 (opcodesOf ops) types 0x00 0x03
+unfolding firstMarked firstFrom codeOf typeInfo isScalable unscaledSize
 form-runtime = record {
   wide = refl;
   extra = refl;

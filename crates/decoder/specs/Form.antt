@@ -7,7 +7,8 @@ use mathlib.Core.Bool.{Bool, true, false, cond, not, _&&_, _||_}
 use lib.Dec.{eqb}
 use lib.ListN.{length}
 use lib.IntN.{ℤ, natAbs}
-use Rattle.tables.specs.Records.{opcodeCount, operandCount, typeCode, typeByte, prefixOp}
+use Rattle.tables.specs.Records.{typeByte}
+use Rattle.flow.specs.Opcodes.{Opcodes, prefixWith}
 use Rattle.operand.specs.declared.Operand.{Operand}
 use Rattle.operand.specs.declared.Operand.the-variants.{Reg, RegList, Imm, Idx, Flag8, Flag16, RuntimeId, IntrinsicId}
 use Rattle.decoder.specs.declared.Outcome.{Outcome}
@@ -47,9 +48,9 @@ pub record Sized (types : List ℕ) (t : OperandType) : Type 0 where
   pub present : typeByte types (codeOf t) 30 ≡ 1
 
 -- operands k on of an opcode's record have the types ts
-abbrev pub Typed : List ℕ → List ℕ → ℕ → ℕ → List OperandType → Type 0
+abbrev pub Typed : Opcodes → List ℕ → ℕ → ℕ → List OperandType → Type 0
 Typed ops types op k [] = Unit {0}
-Typed ops types op k (t ∷ ts) = (typeCode ops op k ≡ codeOf t) × Sized types t × Typed ops types op (k + 1) ts
+Typed ops types op k (t ∷ ts) = (ops .code op k ≡ codeOf t) × Sized types t × Typed ops types op (k + 1) ts
 
 -- bytecodes.h: behind each kRegList and kRegOutList stands kRegCount. The Bool says whether the type before is such a list.
 abbrev pub counted : Bool → List OperandType → Bool
@@ -58,12 +59,12 @@ counted true (t ∷ ts) = eqb (codeOf t) (codeOf kRegCount) && counted false ts
 counted false (t ∷ ts) = counted (isRegisterList t) ts
 
 -- the table of an instruction that begins with the byte first and has opcode op is V8's, and no debugger has broken into it
-pub record V8Form (b : Bytecodes) (ops types : List ℕ) (first op : ℕ) : Type 0 where
-  pub wide : prefixOp ops 1 ≡ b .kWide
-  pub extra : prefixOp ops 2 ≡ b .kExtraWide
+pub record V8Form (b : Bytecodes) (ops : Opcodes) (types : List ℕ) (first op : ℕ) : Type 0 where
+  pub wide : prefixWith ops 1 ≡ b .kWide
+  pub extra : prefixWith ops 2 ≡ b .kExtraWide
   pub unbroken : (eqb first (b .kDebugBreakWide) || eqb first (b .kDebugBreakExtraWide)) ≡ false
-  pub known : op < opcodeCount ops
-  pub number : operandCount ops op ≡ length (b .operandTypes op)
+  pub known : op < ops .many
+  pub number : ops .operands op ≡ length (b .operandTypes op)
   pub few : length (b .operandTypes op) ≤ 8
   pub typed : Typed ops types op 0 (b .operandTypes op)
   pub lists : counted false (b .operandTypes op) ≡ true

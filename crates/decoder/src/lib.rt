@@ -2,6 +2,7 @@
 ghost use mathlib.Core.Path.{_≡_};
 ghost use Prim.Native.Nat.{_<_};
 ghost use lib.ListN.{length};
+ghost use Rattle.flow.specs.Opcodes.{opcodesOf};
 ghost use Rattle.decoder.specs.Decode.{decodeAt};
 ghost use Rattle.decoder.specs.mirror.Steps.{operandsAt, ofOps, stepsAt};
 ghost use Rattle.decoder.specs.Head.{blank, opAt, behind, headAt};
@@ -38,7 +39,7 @@ pub struct Decoded {
 }
 
 // The opcode at a place, behind any prefix.
-enum Head {
+pub enum Head {
     End,
     Refused(Refusal),
     Op { opcode: u8, scale: u8, at: usize },
@@ -63,7 +64,7 @@ pub fn decode_at(
     wide: usize,
     extra: usize,
 ) -> Decoded
-    ensures { λ r. ⌜ r ≡ decodeAt (now (code .entry)) (now (opcodes .entry)) (now (types .entry)) start «reg_file_start» wide extra ⌝ }
+    ensures { λ r. ⌜ r ≡ decodeAt (now (code .entry)) (opcodesOf (now (opcodes .entry))) (now (types .entry)) start «reg_file_start» wide extra ⌝ }
 {
     decode_steps(code, opcodes, types, start, reg_file_start, wide, extra)
 }
@@ -153,7 +154,8 @@ fn decode_op(
     reg_file_start: i32,
     at: usize,
 ) -> Decoded
-    ensures { λ r. ⌜ r ≡ ofOps start opcode scale (operandsAt (now (code .entry)) (now (opcodes .entry)) (now (types .entry)) opcode scale «reg_file_start» at) ⌝ }
+    ensures { λ r. ⌜ r ≡ ofOps start opcode scale
+        (operandsAt (now (code .entry)) (opcodesOf (now (opcodes .entry))) (now (types .entry)) opcode scale «reg_file_start» at) ⌝ }
 {
     let all = tables::operand_count(opcodes, opcode);
     let n = if all < 8 { all } else { 8 };
@@ -226,9 +228,9 @@ fn decode_steps(
     wide: usize,
     extra: usize,
 ) -> Decoded
-    ensures { λ r. ⌜ r ≡ stepsAt (now (code .entry)) (now (opcodes .entry)) (now (types .entry)) start «reg_file_start» wide extra ⌝ }
+    ensures { λ r. ⌜ r ≡ stepsAt (now (code .entry)) (opcodesOf (now (opcodes .entry))) (now (types .entry)) start «reg_file_start» wide extra ⌝ }
 {
-    match head_at(code, opcodes.len() / 64, start, wide, extra) {
+    match head_at(code, tables::opcode_count(opcodes), start, wide, extra) {
         Head::End => no_instr(Outcome::End, start % 8),
         Head::Refused(refusal) => no_instr(Outcome::Refused(refusal), start % 8),
         Head::Op { opcode, scale, at } => decode_op(

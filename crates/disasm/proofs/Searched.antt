@@ -2,7 +2,6 @@
 use Prim.Native.Nat.{ℕ}
 use mathlib.Core.Path.{_≡_, ap, _∙_}
 use mathlib.Core.List.{List}
-use lib.ListN.{take, drop}
 use Rattle.refusal.specs.declared.Check.the-variants.{Ok}
 use Rattle.store.specs.declared.Object.{Object}
 use Rattle.store.specs.Records.{objectOf}
@@ -12,16 +11,14 @@ use Rattle.tables.specs.Layout.{layoutOf}
 use Rattle.header.specs.declared.Header.{Header}
 use Rattle.header.specs.declared.HeaderAnswer.{HeaderAnswer}
 use Rattle.header.specs.mirror.Header.{headerSearched}
-use Rattle.decoder.specs.Listed.{listed}
 use Rattle.targets.specs.declared.Pool.{Pool}
-use Rattle.targets.specs.Targets.{found}
 use Rattle.targets.specs.mirror.Search.{poolSearched}
 use Rattle.function.specs.Files.{Files, checkFiles}
 use Rattle.function.specs.Pool.{poolOf}
 use Rattle.function.specs.Code.{headerAt}
 use Rattle.function.specs.mirror.Pool.{poolFound}
 use Rattle.function.proofs.Searched.{header-found, pool-found, elems-found}
-use Rattle.disasm.specs.Listing.{listView, listHeader, listObject}
+use Rattle.disasm.specs.Listing.{listHeader, listObject}
 use Rattle.disasm.specs.mirror.Listing.{listWith, listSearched}
 use Rattle.header.specs.declared.HeaderAnswer.the-variants as header-answer
 
@@ -39,14 +36,6 @@ pub object-listed : (f : Files) (o : Object) (out : List ℕ) (l : Layout) (p : 
     → headerSearched (f .slots) (f .payload) o l ≡ header-answer.At h
     → listWith (f .opcodes) (f .types) (f .runtime) (f .intrinsic) (f .slots) (f .payload) l p h out ≡ listSearched f o out
 object-listed f o out l p h e1 e2 e3 =
-    let code = take (h .«code_len») (drop (h .«code_at») (f .payload)) in
-    rw (← e1, ← e2, e3)
-    (ap (λ (x : Layout). listView (record {
-      code = code;
-      opcodes = f .opcodes;
-      names = record { types = f .types; runtime = f .runtime; intrinsic = f .intrinsic };
-      frame = x .frame;
-      params = h .«parameter_count»;
-      pooled = found p;
-      elem = poolSearched (f .slots) (f .payload) (l .«tagged_size») p;
-    }) h (listed code (f .opcodes) (f .types) (x .frame .«reg_file_start»)) out) e1)
+    let pool = rw e1 at e2 in
+    let header = rw e1 at e3 in
+    rw (e1, ← pool, header)

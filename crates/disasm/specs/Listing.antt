@@ -1,13 +1,13 @@
 -- The listing of a function, as one text, and the call that writes it.
 use Prim.Native.Nat.{ℕ}
-use mathlib.Core.Path.{_≡_}
 use mathlib.Core.List.{List, [], _∷_, _++_}
-use mathlib.Core.Bool.{cond}
-use lib.Dec.{leb}
-use lib.ListN.{length, take, drop}
+use lib.ListN.{take, drop}
 use Rattle.laws.specs.Ascii.{ascii}
-use Rattle.refusal.specs.Check.{refusalAt, guardedOn}
+use Rattle.refusal.specs.Check.{guardedOn}
+use Rattle.text.specs.declared.Written.{Written}
+use Rattle.text.specs.declared.Written.the-variants.{Refused}
 use Rattle.text.specs.Texts.{decimal, signedDecimal}
+use Rattle.text.specs.Written.{putText}
 use Rattle.store.specs.declared.Object.{Object}
 use Rattle.store.specs.Records.{objectOf}
 use Rattle.serializer.specs.declared.Elem.{Elem}
@@ -17,6 +17,7 @@ use Rattle.header.specs.declared.HeaderAnswer.{HeaderAnswer}
 use Rattle.header.specs.declared.HeaderAnswer.the-variants as header-answer
 use Rattle.header.specs.Header.{headerOf}
 use Rattle.decoder.specs.declared.Instr.{Instr}
+use Rattle.flow.specs.Opcodes.{opcodesOf}
 use Rattle.decoder.specs.Listed.{Listing, listed}
 use Rattle.targets.specs.declared.Pool.{Pool}
 use Rattle.targets.specs.Targets.{poolElem, found}
@@ -24,8 +25,6 @@ use Rattle.lines.specs.Line.{View, lineText}
 use Rattle.function.specs.Files.{Files, checkFiles}
 use Rattle.function.specs.Pool.{poolOf}
 use Rattle.function.specs.Code.{listingCheck}
-use Rattle.disasm.specs.declared.Listed.{Listed}
-use Rattle.disasm.specs.declared.Listed.the-variants as listed-as
 
 -- the header lines of the Rust's `render_sfi`
 unfoldable pub headerText : Header → List ℕ
@@ -43,7 +42,7 @@ linesText v (i ∷ is) = lineText v i ++ linesText v is
 abbrev pub viewBy : Files → Header → Pool → (ℕ → Elem) → View
 viewBy f h p el = record {
   code = take (h .«code_len») (drop (h .«code_at») (f .payload));
-  opcodes = f .opcodes;
+  opcodes = opcodesOf (f .opcodes);
   names = record { types = f .types; runtime = f .runtime; intrinsic = f .intrinsic };
   frame = layoutOf (f .layout) .frame;
   params = h .«parameter_count»;
@@ -51,28 +50,24 @@ viewBy f h p el = record {
   elem = el;
 }
 
--- a text into the buffer o: "17: lent output buffer shorter than the whole output"
-abbrev pub putText : List ℕ → List ℕ → Listed × List ℕ
-putText t o = cond (leb (length t) (length o)) (listed-as.Done (length t), t ++ drop (length t) o) (listed-as.Refused (refusalAt 17 0), o)
+-- the header and the lines
+abbrev pub listingText : View → Header → Listing → List ℕ
+listingText v h l = headerText h ++ linesText v (l .instrs)
 
--- an answer r and a buffer o′ are those of a call
-abbrev pub ListedAs : Listed × List ℕ → Listed → List ℕ → Type 0
-ListedAs a r o′ = (r ≡ a .0) × (o′ ≡ a .1)
+-- written once 11 to 16 are past
+unfoldable pub listView : View → Header → Listing → List ℕ → Written × List ℕ
+listView v h l o = guardedOn (listingCheck (v .opcodes) (v .pooled) l) Refused o (putText (listingText v h l) o)
 
--- the header and the lines, once 11 to 16 are past
-unfoldable pub listView : View → Header → Listing → List ℕ → Listed × List ℕ
-listView v h l o = guardedOn (listingCheck (v .opcodes) (v .pooled) l) listed-as.Refused o (putText (headerText h ++ linesText v (l .instrs)) o)
-
-abbrev pub listHeader : Files → HeaderAnswer → Pool → (ℕ → Elem) → List ℕ → Listed × List ℕ
-listHeader f (header-answer.Refused r) p el o = (listed-as.Refused r, o)
-listHeader f (header-answer.At h) p el o = let v = viewBy f h p el in listView v h (listed (v .code) (f .opcodes) (f .types) (v .frame .«reg_file_start»)) o
+abbrev pub listHeader : Files → HeaderAnswer → Pool → (ℕ → Elem) → List ℕ → Written × List ℕ
+listHeader f (header-answer.Refused r) p el o = (Refused r, o)
+listHeader f (header-answer.At h) p el o = let v = viewBy f h p el in listView v h (listed (v .code) (v .opcodes) (f .types) (v .frame .«reg_file_start»)) o
 
 -- the listing of an object whose files are good
-abbrev pub listObject : Files → Object → List ℕ → Listed × List ℕ
+abbrev pub listObject : Files → Object → List ℕ → Written × List ℕ
 listObject f o out =
     let l = layoutOf (f .layout) in
     listHeader f (headerOf (f .slots) (f .payload) o l) (poolOf f o) (poolElem (f .slots) (f .payload) (l .«tagged_size») (poolOf f o)) out
 
 -- the call: its answer, and the buffer behind it
-unfoldable pub listCall : Files → ℕ → List ℕ → Listed × List ℕ
-listCall f object out = guardedOn (checkFiles f object) listed-as.Refused out (listObject f (objectOf (f .objects) object) out)
+unfoldable pub listCall : Files → ℕ → List ℕ → Written × List ℕ
+listCall f object out = guardedOn (checkFiles f object) Refused out (listObject f (objectOf (f .objects) object) out)

@@ -1,39 +1,39 @@
 // The listing of a function: its header counts and its instruction lines.
 
 use decoder::Outcome;
+use function::Function;
 use header::Header;
 use header::HeaderAnswer;
 use refusal::Check;
 use refusal::Refusal;
 use store::Object;
-use tables::Frame;
 use tables::Layout;
 use targets::Pool;
+use text::Written;
 ghost use mathlib.Core.Path.{_≡_};
-ghost use Prim.Native.Nat.{suc};
-ghost use Rattle.refusal.specs.Check.{firstRefusal};
+ghost use Rattle.refusal.specs.declared.Check.the-variants.{Ok};
 ghost use Rattle.text.specs.Put.{Put};
-ghost use Rattle.decoder.specs.Listed.{listFrom};
-ghost use Rattle.decoder.specs.Decode.{decodeAt};
-ghost use lib.ListN.{length};
+ghost use Rattle.text.specs.Written.{putText};
+ghost use Rattle.text.specs.Numbers.{WrittenAs};
+ghost use Rattle.text.specs.mirror.Written.{WrittenBy};
 ghost use Rattle.flow.specs.Flow.{Numbered};
+ghost use Rattle.flow.specs.Opcodes.{opcodesOf};
 ghost use Rattle.targets.specs.Targets.{found};
-ghost use Rattle.targets.specs.mirror.Search.{poolSearched};
-ghost use Rattle.lines.specs.Line.{lineText};
-ghost use Rattle.disasm.specs.Listing.{headerText, listView, ListedAs, listCall};
-ghost use Rattle.disasm.specs.mirror.Lines.{Passed, Checked};
-ghost use Rattle.disasm.specs.mirror.Listing.{listWith, Whole, listSearched};
+ghost use Rattle.function.specs.Files.{filesOf};
+ghost use Rattle.function.specs.Code.{codeCheck};
+ghost use Rattle.function.specs.mirror.Function.{listedBy};
+ghost use Rattle.lines.specs.mirror.View.{viewOf};
+ghost use Rattle.disasm.specs.Listing.{headerText, linesText, listingText, listView, listCall};
+ghost use Rattle.disasm.specs.mirror.Lines.{headerRoom, Checked};
+ghost use Rattle.disasm.specs.mirror.Listing.{listWith, listSearched};
 
-// The answer to a request for a listing: its length, or a refusal.
-pub enum Listed {
-    Done(usize),
-    Refused(Refusal),
-}
+// Room for the header lines, which are shorter.
+const HEADER_ROOM: usize = 250;
 
-// What one pass over the instructions answers: the checks of 11 to 16, and the place behind the lines.
+// What the first pass over the instructions answers: the checks of 11 to 16, and room for the header and all lines.
 pub struct Pass {
     pub check: Check,
-    pub place: usize,
+    pub room: usize,
 }
 
 // The listing of an object, a BytecodeArray, from the start of the buffer on. Rows 1 to 9 and 11 to 17; after a refusal the buffer is as
@@ -49,8 +49,10 @@ pub fn list(
     slots: &[u8],
     payload: &[u8],
     object: usize,
-) -> Listed
-    ensures { λ r. ⌜ ListedAs (listCall (record { opcodes = now (opcodes .entry); types = now (types .entry); runtime = now (runtime .entry); intrinsic = now (intrinsic .entry); layout = now (layout .entry); objects = now (objects .entry); slots = now (slots .entry); payload = now (payload .entry) }) object (now (out .entry))) r (now (out .exit)) ⌝ }
+) -> Written
+    ensures { λ r. ⌜ WrittenAs (listCall
+        (filesOf (now (opcodes .entry)) (now (types .entry)) (now (runtime .entry)) (now (intrinsic .entry)) (now (layout .entry))
+        (now (objects .entry)) (now (slots .entry)) (now (payload .entry))) object (now (out .entry))) r (now (out .exit)) ⌝ }
 {
     let check = function::check_files(
         opcodes,
@@ -64,7 +66,7 @@ pub fn list(
         object,
     );
     match check {
-        Check::Refused(refusal) => Listed::Refused(refusal),
+        Check::Refused(refusal) => Written::Refused(refusal),
         Check::Ok => list_object(
             out,
             opcodes,
@@ -92,12 +94,14 @@ fn list_object(
     slots: &[u8],
     payload: &[u8],
     object: Object,
-) -> Listed
-    ensures { λ r. ⌜ ListedAs (listSearched (record { opcodes = now (opcodes .entry); types = now (types .entry); runtime = now (runtime .entry); intrinsic = now (intrinsic .entry); layout = now (layout .entry); objects = now (objects .entry); slots = now (slots .entry); payload = now (payload .entry) }) object (now (out .entry))) r (now (out .exit)) ⌝ }
+) -> Written
+    ensures { λ r. ⌜ WrittenBy (listSearched
+        (filesOf (now (opcodes .entry)) (now (types .entry)) (now (runtime .entry)) (now (intrinsic .entry)) (now (layout .entry))
+        (now (objects .entry)) (now (slots .entry)) (now (payload .entry))) object (now (out .entry))) r (now (out .exit)) ⌝ }
 {
     let shape = tables::layout_of(layout);
-    match header::header_of(slots, payload, object, shape) {
-        HeaderAnswer::Refused(refusal) => Listed::Refused(refusal),
+    match header::header_at_unchecked(slots, payload, object, shape) {
+        HeaderAnswer::Refused(refusal) => Written::Refused(refusal),
         HeaderAnswer::At(h) => {
             let pool = function::pool_of(objects, slots, shape, object);
             list_header(
@@ -128,15 +132,16 @@ fn list_header(
     shape: Layout,
     pool: Pool,
     h: Header,
-) -> Listed
-    ensures { λ r. ⌜ ListedAs (listWith (now (opcodes .entry)) (now (types .entry)) (now (runtime .entry)) (now (intrinsic .entry)) (now (slots .entry)) (now (payload .entry)) shape pool h (now (out .entry))) r (now (out .exit)) ⌝ }
+) -> Written
+    ensures { λ r. ⌜ WrittenBy
+        (listWith (now (opcodes .entry)) (now (types .entry)) (now (runtime .entry)) (now (intrinsic .entry)) (now (slots .entry))
+        (now (payload .entry)) shape pool h (now (out .entry))) r (now (out .exit)) ⌝ }
 {
     let start = h.code_at;
     let size = h.code_len;
     let code = serializer::lent(payload, start, size);
-    let prefixes = tables::prefix_ops(opcodes);
+    let f = function::function_of(opcodes, shape, pool, h.parameter_count);
     let flows = flow::flow_numbers(opcodes);
-    let frame = shape.frame;
     list_code(
         out,
         code,
@@ -147,12 +152,8 @@ fn list_header(
         slots,
         payload,
         &flows,
-        shape.tagged_size,
-        pool,
-        frame,
+        f,
         h,
-        prefixes.wide as usize,
-        prefixes.extra_wide as usize,
     )
 }
 
@@ -167,25 +168,23 @@ fn list_code(
     slots: &[u8],
     payload: &[u8],
     flows: &[u8],
-    ts: u8,
-    pool: Pool,
-    frame: Frame,
+    f: Function,
     h: Header,
-    wide: usize,
-    extra: usize,
-) -> Listed
+) -> Written
     requires { ⌜ Numbered (now opcodes) (now flows) 256 ⌝ }
-    ensures { λ r. ⌜ ListedAs (listView (record { code = now (code .entry); opcodes = now (opcodes .entry); names = record { types = now (types .entry); runtime = now (runtime .entry); intrinsic = now (intrinsic .entry) }; frame = frame; params = h .«parameter_count»; pooled = found pool; elem = poolSearched (now (slots .entry)) (now (payload .entry)) ts pool }) h (listFrom (λ i. decodeAt (now (code .entry)) (now (opcodes .entry)) (now (types .entry)) i (frame .«reg_file_start») wide extra) (suc (length (now (code .entry)))) 0) (now (out .entry))) r (now (out .exit)) ⌝ }
+    ensures { λ r. ⌜ WrittenBy (listView
+        (viewOf (now (code .entry)) (now (opcodes .entry)) (now (types .entry)) (now (runtime .entry)) (now (intrinsic .entry))
+        (now (slots .entry)) (now (payload .entry)) f) h
+        (listedBy (now (code .entry)) (now (opcodes .entry)) (now (types .entry)) f) (now (out .entry))) r (now (out .exit)) ⌝ }
 {
-    let rfs = frame.reg_file_start;
-    let first = check_lines(code, opcodes, types, flows, pool, rfs, wide, extra);
+    let first = check_lines(code, opcodes, types, flows, f);
     let check = first.check;
-    let room = first.place;
+    let room = first.room;
     match check {
-        Check::Refused(refusal) => Listed::Refused(refusal),
+        Check::Refused(refusal) => Written::Refused(refusal),
         Check::Ok => {
             if room <= out.len() {
-                let written = put_all(
+                Written::Done(put_all(
                     out,
                     code,
                     opcodes,
@@ -195,14 +194,9 @@ fn list_code(
                     slots,
                     payload,
                     flows,
-                    ts,
-                    pool,
-                    frame,
+                    f,
                     h,
-                    wide,
-                    extra,
-                );
-                Listed::Done(written.place)
+                ))
             } else {
                 list_measured(
                     out,
@@ -214,19 +208,15 @@ fn list_code(
                     slots,
                     payload,
                     flows,
-                    ts,
-                    pool,
-                    frame,
+                    f,
                     h,
-                    wide,
-                    extra,
                 )
             }
         }
     }
 }
 
-// Measured, with 11 to 16; then 17; then written.
+// Measured; then 17; then written.
 fn list_measured(
     out: &mut [u8],
     code: &[u8],
@@ -237,17 +227,16 @@ fn list_measured(
     slots: &[u8],
     payload: &[u8],
     flows: &[u8],
-    ts: u8,
-    pool: Pool,
-    frame: Frame,
+    f: Function,
     h: Header,
-    wide: usize,
-    extra: usize,
-) -> Listed
-    requires { ⌜ Numbered (now opcodes) (now flows) 256 ⌝ }
-    ensures { λ r. ⌜ ListedAs (listView (record { code = now (code .entry); opcodes = now (opcodes .entry); names = record { types = now (types .entry); runtime = now (runtime .entry); intrinsic = now (intrinsic .entry) }; frame = frame; params = h .«parameter_count»; pooled = found pool; elem = poolSearched (now (slots .entry)) (now (payload .entry)) ts pool }) h (listFrom (λ i. decodeAt (now (code .entry)) (now (opcodes .entry)) (now (types .entry)) i (frame .«reg_file_start») wide extra) (suc (length (now (code .entry)))) 0) (now (out .entry))) r (now (out .exit)) ⌝ }
+) -> Written
+    requires { ⌜ Numbered (now opcodes) (now flows) 256 × (codeCheck (listedBy (now code) (now opcodes) (now types) f .outcome) ≡ Ok) ⌝ }
+    ensures { λ r. ⌜ WrittenBy (putText (listingText
+        (viewOf (now (code .entry)) (now (opcodes .entry)) (now (types .entry)) (now (runtime .entry)) (now (intrinsic .entry))
+        (now (slots .entry)) (now (payload .entry)) f) h
+        (listedBy (now (code .entry)) (now (opcodes .entry)) (now (types .entry)) f)) (now (out .entry))) r (now (out .exit)) ⌝ }
 {
-    let measured = put_all(
+    let size = put_all(
         &mut out[0..0],
         code,
         opcodes,
@@ -257,48 +246,32 @@ fn list_measured(
         slots,
         payload,
         flows,
-        ts,
-        pool,
-        frame,
+        f,
         h,
-        wide,
-        extra,
     );
-    let check = measured.check;
-    let size = measured.place;
-    match check {
-        Check::Refused(refusal) => Listed::Refused(refusal),
-        Check::Ok => {
-            if size <= out.len() {
-                let written = put_all(
-                    out,
-                    code,
-                    opcodes,
-                    types,
-                    runtime,
-                    intrinsic,
-                    slots,
-                    payload,
-                    flows,
-                    ts,
-                    pool,
-                    frame,
-                    h,
-                    wide,
-                    extra,
-                );
-                Listed::Done(written.place)
-            } else {
-                Listed::Refused(Refusal {
-                    number: refusal::SHORT_OUTPUT,
-                    place: 0,
-                })
-            }
-        }
+    if size <= out.len() {
+        Written::Done(put_all(
+            out,
+            code,
+            opcodes,
+            types,
+            runtime,
+            intrinsic,
+            slots,
+            payload,
+            flows,
+            f,
+            h,
+        ))
+    } else {
+        Written::Refused(Refusal {
+            number: refusal::SHORT_OUTPUT,
+            place: 0,
+        })
     }
 }
 
-// The header and the lines.
+// The header and the lines. On an empty buffer it measures.
 fn put_all(
     out: &mut [u8],
     code: &[u8],
@@ -309,15 +282,14 @@ fn put_all(
     slots: &[u8],
     payload: &[u8],
     flows: &[u8],
-    ts: u8,
-    pool: Pool,
-    frame: Frame,
+    f: Function,
     h: Header,
-    wide: usize,
-    extra: usize,
-) -> Pass
-    requires { ⌜ Numbered (now opcodes) (now flows) 256 ⌝ }
-    ensures { λ r. ⌜ Whole (record { code = now (code .entry); opcodes = now (opcodes .entry); names = record { types = now (types .entry); runtime = now (runtime .entry); intrinsic = now (intrinsic .entry) }; frame = frame; params = h .«parameter_count»; pooled = found pool; elem = poolSearched (now (slots .entry)) (now (payload .entry)) ts pool }) h (listFrom (λ i. decodeAt (now (code .entry)) (now (opcodes .entry)) (now (types .entry)) i (frame .«reg_file_start») wide extra) (suc (length (now (code .entry)))) 0) (now (out .entry)) (now (out .exit)) r ⌝ }
+) -> usize
+    requires { ⌜ Numbered (now opcodes) (now flows) 256 × (codeCheck (listedBy (now code) (now opcodes) (now types) f .outcome) ≡ Ok) ⌝ }
+    ensures { λ r. ⌜ Put (now (out .entry)) 0 (listingText
+        (viewOf (now (code .entry)) (now (opcodes .entry)) (now (types .entry)) (now (runtime .entry)) (now (intrinsic .entry))
+        (now (slots .entry)) (now (payload .entry)) f) h
+        (listedBy (now (code .entry)) (now (opcodes .entry)) (now (types .entry)) f)) (now (out .exit)) r ⌝ }
 {
     let p = put_header(out, 0, h);
     put_lines(
@@ -331,12 +303,7 @@ fn put_all(
         slots,
         payload,
         flows,
-        ts,
-        pool,
-        frame,
-        h.parameter_count,
-        wide,
-        extra,
+        f,
     )
 }
 
@@ -358,7 +325,7 @@ fn put_header(out: &mut [u8], at: usize, h: Header) -> usize
     text::put_byte(out, p, b'\n')
 }
 
-// The lines of all instructions from place at of the buffer on. On an empty buffer it measures.
+// The lines of all instructions from place at of the buffer on, where decoding comes to the code's end.
 fn put_lines(
     out: &mut [u8],
     at: usize,
@@ -370,36 +337,27 @@ fn put_lines(
     slots: &[u8],
     payload: &[u8],
     flows: &[u8],
-    ts: u8,
-    pool: Pool,
-    frame: Frame,
-    params: i32,
-    wide: usize,
-    extra: usize,
-) -> Pass
-    requires { ⌜ Numbered (now opcodes) (now flows) 256 ⌝ }
-    ensures { λ r. ⌜ Passed (record { code = now (code .entry); opcodes = now (opcodes .entry); names = record { types = now (types .entry); runtime = now (runtime .entry); intrinsic = now (intrinsic .entry) }; frame = frame; params = params; pooled = found pool; elem = poolSearched (now (slots .entry)) (now (payload .entry)) ts pool }) (listFrom (λ i. decodeAt (now (code .entry)) (now (opcodes .entry)) (now (types .entry)) i (frame .«reg_file_start») wide extra) (suc (length (now (code .entry)))) 0) (now (out .entry)) at (now (out .exit)) r ⌝ }
+    f: Function,
+) -> usize
+    requires { ⌜ Numbered (now opcodes) (now flows) 256 × (codeCheck (listedBy (now code) (now opcodes) (now types) f .outcome) ≡ Ok) ⌝ }
+    ensures { λ r. ⌜ Put (now (out .entry)) at (linesText
+        (viewOf (now (code .entry)) (now (opcodes .entry)) (now (types .entry)) (now (runtime .entry)) (now (intrinsic .entry))
+        (now (slots .entry)) (now (payload .entry)) f)
+        (listedBy (now (code .entry)) (now (opcodes .entry)) (now (types .entry)) f .instrs)) (now (out .exit)) r ⌝ }
 {
+    let frame = f.frame;
     let rfs = frame.reg_file_start;
     let mut p = text::saturating_add(at, 0);
-    let mut check = Check::Ok;
     let mut i: usize = 0;
     while i < code.len() {
-        let d = decoder::decode_at(code, opcodes, types, i, rfs, wide, extra);
+        let d = decoder::decode_at(code, opcodes, types, i, rfs, f.wide, f.extra);
         let outcome = d.outcome;
         let instr = d.instr;
         match outcome {
-            Outcome::Refused(refusal) => {
-                return Pass {
-                    check: Check::Refused(refusal),
-                    place: p,
-                };
-            }
-            Outcome::End => return Pass { check, place: p },
+            Outcome::Refused(_) => return p,
+            Outcome::End => return p,
             Outcome::Done => {
-                let flow = flow::flow_by(words::byte_at(flows, instr.opcode as usize));
-                let table = targets::jump_table(pool, flow, instr);
-                check = refusal::first_refusal(check, function::table_check(table, instr.offset));
+                let flow = flow::flow_in(flows, instr.opcode);
                 let q = text::min(p, out.len());
                 let w = lines::put_line(
                     &mut out[q..],
@@ -410,10 +368,7 @@ fn put_lines(
                     intrinsic,
                     slots,
                     payload,
-                    ts,
-                    pool,
-                    frame,
-                    params,
+                    f,
                     flow,
                     instr,
                 );
@@ -422,46 +377,41 @@ fn put_lines(
             }
         }
     }
-    Pass { check, place: p }
+    p
 }
 
-// 11 to 16, and room for all lines and the header.
-fn check_lines(
-    code: &[u8],
-    opcodes: &[u8],
-    types: &[u8],
-    flows: &[u8],
-    pool: Pool,
-    rfs: i32,
-    wide: usize,
-    extra: usize,
-) -> Pass
+// 11 to 16, and room for the header and all lines.
+fn check_lines(code: &[u8], opcodes: &[u8], types: &[u8], flows: &[u8], f: Function) -> Pass
     requires { ⌜ Numbered (now opcodes) (now flows) 256 ⌝ }
-    ensures { λ r. ⌜ Checked (now (opcodes .entry)) (found pool) (listFrom (λ i. decodeAt (now (code .entry)) (now (opcodes .entry)) (now (types .entry)) i rfs wide extra) (suc (length (now (code .entry)))) 0) r ⌝ }
+    ensures { λ r. ⌜ Checked (opcodesOf (now (opcodes .entry))) (found (f .pool))
+        (listedBy (now (code .entry)) (now (opcodes .entry)) (now (types .entry)) f) r ⌝ }
 {
-    let mut p: usize = 250;
+    let frame = f.frame;
+    let rfs = frame.reg_file_start;
+    let pool = f.pool;
+    let mut p = HEADER_ROOM;
     let mut check = Check::Ok;
     let mut i: usize = 0;
     while i < code.len() {
-        let read = decoder::decode_at(code, opcodes, types, i, rfs, wide, extra);
+        let read = decoder::decode_at(code, opcodes, types, i, rfs, f.wide, f.extra);
         let outcome = read.outcome;
         let instr = read.instr;
         match outcome {
             Outcome::Refused(refusal) => {
                 return Pass {
                     check: Check::Refused(refusal),
-                    place: p,
+                    room: p,
                 };
             }
-            Outcome::End => return Pass { check, place: p },
+            Outcome::End => return Pass { check, room: p },
             Outcome::Done => {
-                let flow = flow::flow_by(words::byte_at(flows, instr.opcode as usize));
-                let table = targets::jump_table(pool, flow, instr);
+                let flow = flow::flow_in(flows, instr.opcode);
+                let table = targets::jump_table_unchecked(pool, flow, instr);
                 check = refusal::first_refusal(check, function::table_check(table, instr.offset));
                 p = text::saturating_add(p, lines::line_room(flow, instr, table));
                 i = instr.end;
             }
         }
     }
-    Pass { check, place: p }
+    Pass { check, room: p }
 }

@@ -1,7 +1,8 @@
 // What an instruction does with the flow of control, by its plain name: 01's lists in "Walks" and the Rust's list in `jump_target`
 // and `jump_table`. Later wishes read it from the opcode record instead; it stands behind `flow_of` alone.
 ghost use mathlib.Core.Path.{_≡_};
-ghost use Prim.Native.Nat.{_<_};
+ghost use Prim.Native.Nat.{ℕ, _<_};
+ghost use mathlib.Core.List.{List};
 ghost use lib.ListN.{getD};
 ghost use Rattle.tables.specs.Records.{opcodeNameSize};
 ghost use Rattle.tables.specs.mirror.Rows.{rows};
@@ -42,7 +43,7 @@ pub fn flow_of(opcodes: &[u8], op: u8) -> Flow
 
 // The flow of an opcode whose number stands in a table, as `flow_numbers` makes it: for loops over instructions.
 pub fn flow_in(flows: &[u8], op: u8) -> Flow
-    ensures { λ r. ⌜ r ≡ flowBy (getD (now (flows .entry)) op 0) ⌝ }
+    ensures { λ r. ⌜ ((ops : List ℕ) → Numbered ops (now (flows .entry)) 256 → r ≡ flowOf ops op) ⌝ }
 {
     flow_by(words::byte_at(flows, op as usize))
 }

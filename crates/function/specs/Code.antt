@@ -15,7 +15,7 @@ use Rattle.decoder.specs.declared.Instr.{Instr}
 use Rattle.decoder.specs.declared.Outcome.{Outcome}
 use Rattle.decoder.specs.declared.Decoded.{Decoded}
 use Rattle.decoder.specs.Listed.{Listing, decodes}
-use Rattle.flow.specs.Flow.{flowOf}
+use Rattle.flow.specs.Opcodes.{Opcodes, opcodesOf}
 use Rattle.targets.specs.declared.Table.{Table}
 use Rattle.targets.specs.declared.Table.the-variants as table
 use Rattle.targets.specs.Targets.{jumpTable}
@@ -38,7 +38,7 @@ codeOf f (header-answer.Refused r) = []
 -- ---- lent code
 -- 20 and 11 to 15, and "end" at the code's length, by decoding at the place
 abbrev pub decodedAt : Files → List ℕ → ℕ → Decoded
-decodedAt f code at = decodes code (f .opcodes) (f .types) (signedValue (f .layout) 13) at
+decodedAt f code at = decodes code (opcodesOf (f .opcodes)) (f .types) (signedValue (f .layout) 13) at
 
 -- ---- 11 to 16
 abbrev pub tableCheck : Table → ℕ → Check
@@ -47,9 +47,9 @@ tableCheck (table.At e) at = Ok
 tableCheck table.Refused at = refused 16 at
 
 -- 16: "any listed instruction, reached or not"; the place is the instruction's start
-unfoldable pub switchCheck : List ℕ → Bool → List Instr → Check
+unfoldable pub switchCheck : Opcodes → Bool → List Instr → Check
 switchCheck ops pooled [] = Ok
-switchCheck ops pooled (i ∷ is) = firstRefusal (tableCheck (jumpTable pooled (flowOf ops (i .opcode)) i) (i .offset)) (switchCheck ops pooled is)
+switchCheck ops pooled (i ∷ is) = firstRefusal (tableCheck (jumpTable pooled (ops .flow (i .opcode)) i) (i .offset)) (switchCheck ops pooled is)
 
 -- 11 to 15, "met as decoding goes on"
 abbrev pub codeCheck : Outcome → Check
@@ -58,5 +58,5 @@ codeCheck Outcome.Done = Ok
 codeCheck (Outcome.Refused r) = Refused r
 
 -- 11 to 15 come before 16, wherever they lie
-abbrev pub listingCheck : List ℕ → Bool → Listing → Check
+abbrev pub listingCheck : Opcodes → Bool → Listing → Check
 listingCheck ops pooled l = firstRefusal (codeCheck (l .outcome)) (switchCheck ops pooled (l .instrs))

@@ -1,6 +1,6 @@
 -- The files that a call on a function is lent, and their checks in 01's order.
 use Prim.Native.Nat.{ℕ}
-use mathlib.Core.List.{List}
+use mathlib.Core.List.{List, []}
 use Rattle.refusal.specs.declared.Check.{Check}
 use Rattle.refusal.specs.declared.Check.the-variants.{Ok}
 use Rattle.refusal.specs.Check.{firstRefusal}
@@ -20,6 +20,22 @@ pub record Files : Type 0 where
   pub objects : List ℕ
   pub slots : List ℕ
   pub payload : List ℕ
+
+abbrev pub filesOf : List ℕ → List ℕ → List ℕ → List ℕ → List ℕ → List ℕ → List ℕ → List ℕ → Files
+filesOf opcodes types runtime intrinsic layout objects slots payload = record {
+  opcodes = opcodes;
+  types = types;
+  runtime = runtime;
+  intrinsic = intrinsic;
+  layout = layout;
+  objects = objects;
+  slots = slots;
+  payload = payload;
+}
+
+-- of lent code, which is lent no name files
+abbrev pub lentFiles : List ℕ → List ℕ → List ℕ → List ℕ → List ℕ → List ℕ → Files
+lentFiles opcodes types layout objects slots payload = filesOf opcodes types [] [] layout objects slots payload
 
 -- rows 1 to 8, in 01's order
 abbrev pub checkFiles : Files → ℕ → Check

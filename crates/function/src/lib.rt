@@ -5,21 +5,33 @@ use refusal::Refusal;
 use serializer::SlotAt;
 use store::Object;
 use store::SlotValue;
+use tables::Frame;
 use tables::Layout;
 use targets::Pool;
 use targets::PoolSlots;
 use targets::Table;
 ghost use mathlib.Core.Path.{_≡_};
-ghost use mathlib.Core.List.{[]};
-ghost use Rattle.function.specs.Files.{checkFiles, checkPoolObject, checkLent};
+ghost use Rattle.function.specs.Files.{filesOf, lentFiles, checkFiles, checkPoolObject, checkLent};
 ghost use Rattle.function.specs.Pool.{poolBy};
 ghost use Rattle.function.specs.Code.{tableCheck};
 ghost use Rattle.function.specs.mirror.Pool.{poolFound, lentFound};
+ghost use Rattle.function.specs.mirror.Function.{functionOf};
 
 // The object whose pool lent code uses, if one is lent. Without one no store is lent either.
 pub enum PoolObject {
     Nothing,
     Object(usize),
+}
+
+// What is found once of a function: the tagged size, its pool, the frame, the parameter count, the prefix opcodes. Lent code has no header:
+// its parameter count is 0, and no walk or target reads it.
+pub struct Function {
+    pub ts: u8,
+    pub pool: Pool,
+    pub frame: Frame,
+    pub params: i32,
+    pub wide: usize,
+    pub extra: usize,
 }
 
 // Rows 1 to 8, of an object that is to be a BytecodeArray.
@@ -34,7 +46,9 @@ pub fn check_files(
     payload: &[u8],
     object: usize,
 ) -> Check
-    ensures { λ r. ⌜ r ≡ checkFiles (record { opcodes = now (opcodes .entry); types = now (types .entry); runtime = now (runtime .entry); intrinsic = now (intrinsic .entry); layout = now (layout .entry); objects = now (objects .entry); slots = now (slots .entry); payload = now (payload .entry) }) object ⌝ }
+    ensures { λ r. ⌜ r ≡ checkFiles
+        (filesOf (now (opcodes .entry)) (now (types .entry)) (now (runtime .entry)) (now (intrinsic .entry)) (now (layout .entry))
+        (now (objects .entry)) (now (slots .entry)) (now (payload .entry))) object ⌝ }
 {
     let table = tables::check_table(opcodes, types, runtime, intrinsic, layout);
     let files = refusal::first_refusal(
@@ -55,7 +69,9 @@ pub fn check_lent(
     payload: &[u8],
     object: PoolObject,
 ) -> Check
-    ensures { λ r. ⌜ r ≡ checkLent (record { opcodes = now (opcodes .entry); types = now (types .entry); runtime = []; intrinsic = []; layout = now (layout .entry); objects = now (objects .entry); slots = now (slots .entry); payload = now (payload .entry) }) object (now (code .entry)) ⌝ }
+    ensures { λ r. ⌜ r ≡ checkLent
+        (lentFiles (now (opcodes .entry)) (now (types .entry)) (now (layout .entry)) (now (objects .entry)) (now (slots .entry)) (now (payload .entry)))
+        object (now (code .entry)) ⌝ }
 {
     let table = tables::check_table(opcodes, types, b"", b"", layout);
     let owned = check_pool_object(objects, slots, payload, object);
@@ -76,6 +92,22 @@ fn check_pool_object(objects: &[u8], slots: &[u8], payload: &[u8], object: PoolO
     }
 }
 
+// What is found once of a function, of its table, layout, pool and parameter count.
+pub fn function_of(opcodes: &[u8], shape: Layout, pool: Pool, params: i32) -> Function
+    ensures { λ r. ⌜ r ≡ functionOf (now (opcodes .entry)) shape pool params ⌝ }
+{
+    let prefixes = tables::prefix_ops(opcodes);
+    let frame = shape.frame;
+    Function {
+        ts: shape.tagged_size,
+        pool,
+        frame,
+        params,
+        wide: prefixes.wide as usize,
+        extra: prefixes.extra_wide as usize,
+    }
+}
+
 // The pool of an object.
 pub fn pool_of(objects: &[u8], slots: &[u8], shape: Layout, object: Object) -> Pool
     ensures { λ r. ⌜ r ≡ poolFound (now (objects .entry)) (now (slots .entry)) shape object ⌝ }
@@ -83,7 +115,7 @@ pub fn pool_of(objects: &[u8], slots: &[u8], shape: Layout, object: Object) -> P
     let slot = shape.pool_slot as u64;
     pool_by(
         objects,
-        serializer::find_slot(slots, object.first, object.count, slot),
+        serializer::slot_at_unchecked(slots, object.first, object.count, slot),
     )
 }
 

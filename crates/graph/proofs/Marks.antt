@@ -7,9 +7,8 @@ use mathlib.Core.Logic.{_↔_}
 use native.Mathlib.Omega.{arith}
 use lib.ListN.{length, getD}
 use lib.Seq.{ext-getD}
-use Rattle.graph.specs.Graph.{Graph, Reach, Finding, marked, bits}
+use Rattle.graph.specs.Graph.{Graph, Reach, Finding, Marked, marked, bits}
 use Rattle.graph.specs.Graph.Finding.{closed, leaves}
-use Rattle.graph.specs.mirror.Right.{Marked}
 use Rattle.graph.proofs.Levels.{reached-sound, reached-complete}
 use Rattle.graph.proofs.Bound.{bounded}
 

@@ -8,8 +8,8 @@ use native.Mathlib.Omega.{arith}
 use lib.ListN.{length, getD, set, replicate, length-set, length-replicate}
 use lib.Seq.{getD-set-same, getD-set-other}
 use Rattle.laws.proofs.Tests.{under?, same?}
+use Rattle.graph.specs.Graph.{Mark}
 use Rattle.graph.specs.mirror.Queue.{In, sum, Held, Grown}
-use Rattle.graph.specs.mirror.Right.{Mark}
 
 -- ---- the sum of the marks
 sum-set : (M : List ℕ) (t : ℕ) → t < length M → getD M t 0 ≡ 0 → sum (set M t 1) ≡ suc (sum M)

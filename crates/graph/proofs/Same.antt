@@ -7,12 +7,11 @@ use mathlib.Core.List.{List, List·Memᴰ as Among}
 use mathlib.Core.Logic.{inl, inr}
 use lib.ListN.{getD}
 use Rattle.graph.specs.Lists.{elem}
-use Rattle.graph.specs.Graph.{Graph, Step, isStart, stepLeaves, Succ, Exits, Reach, Leaving, Finding, Claim}
+use Rattle.graph.specs.Graph.{Graph, Step, isStart, stepLeaves, Succ, Exits, Reach, Leaving, Finding, Claim, Mark, Marked, Answer}
 use Rattle.graph.specs.Graph.Step.{To, NoTarget}
 use Rattle.graph.specs.Graph.Reach.{here, next}
 use Rattle.graph.specs.Graph.Leaving.{leave}
 use Rattle.graph.specs.Graph.Finding.{closed, leaves}
-use Rattle.graph.specs.mirror.Right.{Mark, Marked, Answer}
 use Rattle.graph.proofs.Levels.{reach-start}
 
 -- g has the starts of g′, and from each of them does nothing that g′ does not, by whatever steps

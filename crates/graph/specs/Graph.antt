@@ -1,10 +1,11 @@
 -- 01, "Walks": what a walk is, what is reached, what leaves, and what the walk check finds. Over any graph: nothing here knows an opcode.
-use Prim.Native.Nat.{ℕ, zero, suc, _≤_}
+use Prim.Native.Nat.{ℕ, zero, suc, _≤_, _<_}
 use mathlib.Core.Path.{_≡_}
 use mathlib.Core.Bool.{Bool, true, false, cond, not, _||_}
 use mathlib.Core.List.{List, [], _∷_, List·Memᴰ as Among}
+use mathlib.Core.Logic.{_⊎_}
 use lib.Dec.{eqb, ltb}
-use lib.ListN.{length}
+use lib.ListN.{length, getD}
 use Rattle.laws.specs.Scan.{firstFrom}
 use Rattle.graph.specs.Lists.{any, keep, elem, first}
 
@@ -86,6 +87,21 @@ abbrev pub Claim : Graph → Finding → Type 0
 Claim g closed = Closed g
 Claim g (leaves n o) = Leaves g n o
 
+-- ---- the marks behind a finding
+-- "After "closed" the first code-length marks are 1 at offsets reached ..; after "leaves in n steps", 1 at offsets reached in fewer than n."
+abbrev pub Marked : Graph → Finding → ℕ → Type 0
+Marked g closed p = (m : ℕ) × Reach g m p
+Marked g (leaves n o) p = (m : ℕ) × (m < n) × Reach g m p
+
+-- a mark v is 1 just where P holds, "and 0 elsewhere"
+abbrev pub Mark : ℕ → Type 0 → Type 0
+Mark v P = ((v ≡ 1) × P) ⊎ ((v ≡ 0) × (P → ⊥))
+
+-- the finding is right, and so are the first n marks
+pub record Answer (g : Graph) (n : ℕ) (M : List ℕ) (f : Finding) : Type 0 where
+  pub claim : Claim g f
+  pub marks : (p : ℕ) → p < n → Mark (getD M p 0) (Marked g f p)
+
 -- ---- the answer, computed. proofs/Findings.antt: it meets the claim, and no other does.
 -- whether some step from o leaves
 unfoldable pub exits : Graph → ℕ → Bool
@@ -112,13 +128,13 @@ firstExit g = firstFrom (λ m. any (exits g) (level g m)) 0 (bound g)
 unfoldable pub finding : Graph → Finding
 finding g = cond (ltb (firstExit g) (bound g)) (leaves (suc (firstExit g)) (first (exits g) (level g (firstExit g)))) closed
 
--- ---- marks
+-- ---- the marks, computed. proofs/Marks.antt: they are those of `Marked`.
 -- whether p is reached in fewer than n steps
 unfoldable pub reached : Graph → ℕ → ℕ → Bool
 reached g zero p = false
 reached g (suc n) p = reached g n p || elem p (level g n)
 
--- "After "closed" the first code-length marks are 1 at offsets reached and 0 elsewhere; after "leaves in n steps", 1 at offsets reached in fewer than n."
+-- whether p is marked after a finding
 unfoldable pub marked : Graph → Finding → ℕ → Bool
 marked g closed p = reached g (bound g) p
 marked g (leaves n o) p = reached g n p

@@ -2,12 +2,14 @@
 use Prim.Native.Nat.{ℕ, _-_, _/_, _%_, _^_}
 use mathlib.Core.Path.{_≡_, refl}
 use mathlib.Core.Bool.{Bool, true, false}
-use mathlib.Core.List.{List, [], _∷_, _++_}
-use lib.IntN.{pos}
+use mathlib.Core.List.{List, [], _∷_, _++_, map}
+use lib.IntN.{ℤ, pos, negsuc}
 use lib.ListN.{replicate}
 use Rattle.laws.specs.Scan.{firstFrom, within}
 use Rattle.words.specs.Le.{leAt}
 use Rattle.words.specs.Signed.{modulo}
+use Rattle.refusal.specs.Check.{refusalAt}
+use Rattle.refusal.specs.Numbers.{Numbers, refusalNumbers, answered, finds, findsNothing}
 use Rattle.store.specs.Records.{slotOf, objectOf}
 use Rattle.store.specs.Check.{sizesOk, objectOk, fieldsOk, valueOk, slotOk, fallsIn, falls, checkStore}
 use Rattle.serializer.specs.Down.{down}
@@ -19,7 +21,7 @@ use Rattle.tables.specs.Check.{wholeRecords, checkLayoutFile}
 use Rattle.header.specs.Header.{headerWith, headerBy}
 use Rattle.header.specs.Slots.{smiBy, fieldNum}
 use Rattle.header.specs.Calls.{headerCall, smiCall, numCall}
-use Rattle.header.specs.Shown.{shownHeader, shownSlot, shownField}
+use Rattle.header.specs.Numbers.{headerNumbers, smiSlotNumbers, numFieldNumbers}
 use Rattle.header.specs.declared.HeaderAnswer.{HeaderAnswer}
 use Rattle.header.specs.declared.HeaderAnswer.the-variants as header-answer
 
@@ -70,53 +72,57 @@ pub sample : header 8 0 (length 5) 8 ≡ header-answer.At (record {
 unfolding headerCall headerBy headerWith layoutOf checkLayoutFile wholeRecords within ranges rangeOf checkStore sizesOk objectOk fieldsOk valueOk slotOk fallsIn falls firstFrom leAt slotOf objectOf rawAt down smiBytes rtOff
 sample = refl
 
-abbrev headers : List (List ℕ)
+-- a header with one register and a frame of 8 bytes: its length, its parameters, its code
+abbrev of : ℕ → ℤ → ℕ → ℕ → Numbers
+of length parameters code-at code-len = answered (pos length ∷ parameters ∷ pos 1 ∷ pos 8 ∷ pos 0 ∷ pos 0 ∷ pos code-at ∷ pos code-len ∷ [])
+
+abbrev refused : ℕ → Numbers
+refused number = refusalNumbers (refusalAt number 0)
+
+abbrev headers : List HeaderAnswer
 headers =
     -- parameter size -9: count -1; direct: its low 16 bits
-    shownHeader (header 8 0 (length 5) (minus 9))
-    ∷ shownHeader (header 8 1 (length 5) (minus 9))
+    header 8 0 (length 5) (minus 9)
+    ∷ header 8 1 (length 5) (minus 9)
     -- 4-byte tagged slots, captured in units of 8
-    ∷ shownHeader (header 4 0 (four 10 ++ four 0) 8)
+    ∷ header 4 0 (four 10 ++ four 0) 8
     -- a length that the payload does not hold, one that is no small integer, one too long, one below 0
-    ∷ shownHeader (header 8 0 (length 65536) 8)
-    ∷ shownHeader (header 8 0 (four 1 ++ four 5) 8)
-    ∷ shownHeader (header 8 0 (length 65537) 8)
-    ∷ shownHeader (header 8 0 (length (minus 1)) 8)
+    ∷ header 8 0 (length 65536) 8
+    ∷ header 8 0 (four 1 ++ four 5) 8
+    ∷ header 8 0 (length 65537) 8
+    ∷ header 8 0 (length (minus 1)) 8
     -- no BytecodeArray, no object
-    ∷ shownHeader (headerCall (object 0) slot (payload (length 5) 8) (layout 8 0) 0)
-    ∷ shownHeader (headerCall (object 1) slot (payload (length 5) 8) (layout 8 0) 1)
+    ∷ headerCall (object 0) slot (payload (length 5) 8) (layout 8 0) 0
+    ∷ headerCall (object 1) slot (payload (length 5) 8) (layout 8 0) 1
     -- no layout record; a tagged size whose low byte is 8; both before what is wrong with the store
-    ∷ shownHeader (headerCall (object 1) slot (payload (length 5) 8) [] 0)
-    ∷ shownHeader (header 264 0 (length 5) 8)
-    ∷ shownHeader (headerCall (object 3) slot (payload (length 5) 8) [] 1)
-    ∷ shownHeader (headerCall (object 3) slot (payload (length 5) 8) (layout 264 0) 1)
+    ∷ headerCall (object 1) slot (payload (length 5) 8) [] 0
+    ∷ header 264 0 (length 5) 8
+    ∷ headerCall (object 3) slot (payload (length 5) 8) [] 1
+    ∷ headerCall (object 3) slot (payload (length 5) 8) (layout 264 0) 1
     ∷ []
 
-pub header-cases : headers ≡
-    (1 ∷ 5 ∷ (2 ^ 64 - 1) ∷ 1 ∷ 8 ∷ 0 ∷ 0 ∷ 46 ∷ 5 ∷ [])
-    ∷ (1 ∷ 5 ∷ 65527 ∷ 1 ∷ 8 ∷ 0 ∷ 0 ∷ 46 ∷ 5 ∷ [])
-    ∷ (1 ∷ 5 ∷ 1 ∷ 1 ∷ 8 ∷ 0 ∷ 0 ∷ 46 ∷ 5 ∷ [])
-    ∷ (1 ∷ 65536 ∷ 1 ∷ 1 ∷ 8 ∷ 0 ∷ 0 ∷ 0 ∷ 0 ∷ [])
-    ∷ (1 ∷ 0 ∷ 1 ∷ 1 ∷ 8 ∷ 0 ∷ 0 ∷ 46 ∷ 0 ∷ [])
-    ∷ (2 ∷ 9 ∷ 0 ∷ [])
-    ∷ (2 ∷ 9 ∷ 0 ∷ [])
-    ∷ (2 ∷ 8 ∷ 0 ∷ [])
-    ∷ (2 ∷ 8 ∷ 0 ∷ [])
-    ∷ (2 ∷ 1 ∷ 0 ∷ [])
-    ∷ (2 ∷ 5 ∷ 0 ∷ [])
-    ∷ (2 ∷ 1 ∷ 0 ∷ [])
-    ∷ (2 ∷ 5 ∷ 0 ∷ [])
-    ∷ []
-unfolding headerCall headerBy headerWith layoutOf checkLayoutFile wholeRecords within ranges rangeOf checkStore sizesOk objectOk fieldsOk valueOk slotOk fallsIn falls firstFrom leAt slotOf objectOf rawAt down smiBytes rtOff modulo
+pub header-cases : map headerNumbers headers ≡
+    of 5 (negsuc 0) 46 5 ∷ of 5 (pos 65527) 46 5
+    ∷ of 5 (pos 1) 46 5
+    ∷ of 65536 (pos 1) 0 0 ∷ of 0 (pos 1) 46 0 ∷ refused 9 ∷ refused 9
+    ∷ refused 8 ∷ refused 8
+    ∷ refused 1 ∷ refused 5 ∷ refused 1 ∷ refused 5 ∷ []
+unfolding headerCall headerBy headerWith layoutOf checkLayoutFile wholeRecords within ranges rangeOf checkStore sizesOk objectOk fieldsOk valueOk slotOk fallsIn falls firstFrom leAt slotOf objectOf rawAt down smiBytes rtOff
 header-cases = refl
 
-abbrev smi : ℕ → ℕ → List ℕ
-smi ts n = shownSlot (smiCall (object 1) slot (payload (length 5) (minus 9)) ts 0 n)
+abbrev smi : ℕ → ℕ → Numbers
+smi ts n = smiSlotNumbers (smiCall (object 1) slot (payload (length 5) (minus 9)) ts 0 n)
 
-abbrev num : ℕ → ℕ → Bool → List ℕ
-num ts n flag = shownField (numCall (object 1) slot (payload (length 5) (minus 9)) ts 0 n flag)
+abbrev num : ℕ → ℕ → Bool → Numbers
+num ts n flag = numFieldNumbers (numCall (object 1) slot (payload (length 5) (minus 9)) ts 0 n flag)
 
-abbrev slots : List (List ℕ)
+abbrev found : ℕ → Numbers
+found n = finds (pos n ∷ [])
+
+abbrev below : ℕ → Numbers
+below n = finds (negsuc n ∷ [])
+
+abbrev slots : List Numbers
 slots =
     -- slot 1 is 0 and 5, slot 5 is 8 and -9
     smi 8 1 ∷ smi 8 5 ∷ num 8 1 false ∷ num 8 1 true ∷ num 8 5 false ∷ num 8 5 true
@@ -128,9 +134,9 @@ slots =
     ∷ smi 8 0 ∷ num 8 0 false ∷ smi 8 (2 ^ 32) ∷ num 8 (2 ^ 32) true ∷ []
 
 pub slot-cases : slots ≡
-    (1 ∷ 5 ∷ []) ∷ (1 ∷ (2 ^ 64 - 9) ∷ []) ∷ (1 ∷ 5 ∷ []) ∷ (1 ∷ 5 ∷ []) ∷ (1 ∷ 8 ∷ []) ∷ (1 ∷ (2 ^ 32 - 9) ∷ [])
-    ∷ (1 ∷ 4 ∷ []) ∷ (1 ∷ (2 ^ 64 - 5) ∷ []) ∷ (1 ∷ (2 ^ 32 - 9) ∷ []) ∷ (1 ∷ (2 ^ 32 - 5) ∷ [])
-    ∷ (0 ∷ []) ∷ (1 ∷ 8 ∷ [])
-    ∷ (0 ∷ []) ∷ (0 ∷ []) ∷ (0 ∷ []) ∷ (0 ∷ []) ∷ []
+    found 5 ∷ below 8 ∷ found 5 ∷ found 5 ∷ found 8 ∷ found (minus 9)
+    ∷ found 4 ∷ below 4 ∷ found (minus 9) ∷ found (minus 5)
+    ∷ findsNothing ∷ found 8
+    ∷ findsNothing ∷ findsNothing ∷ findsNothing ∷ findsNothing ∷ []
 unfolding smiCall numCall smiBy fieldNum checkStore sizesOk objectOk fieldsOk valueOk slotOk fallsIn falls firstFrom leAt slotOf objectOf rawAt down modulo
 slot-cases = refl

@@ -1,5 +1,5 @@
 pub mod Header
 pub mod Slots
 pub mod Calls
-pub mod Shown
+pub mod Numbers
 pub mod mirror

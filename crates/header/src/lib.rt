@@ -18,6 +18,7 @@ ghost use Rattle.header.specs.Header.{lengthOff, orZero, lengthBy, lengt
 ghost use Rattle.header.specs.mirror.Header.{rawFor, headerSearched};
 ghost use Rattle.header.specs.Slots.{slotBy, untested, smiRaw, smiBy, plainNum, smiNum, numBy, fieldNum};
 ghost use Rattle.header.specs.Calls.{checkCode, checkHeader, headerCall, smiCall, numCall};
+ghost use Rattle.header.specs.Numbers.{headerNumbers, smiSlotNumbers, numFieldNumbers};
 
 // Answers.
 
@@ -66,12 +67,13 @@ pub fn header_at(
     layout: &[u8],
     object: usize,
 ) -> HeaderAnswer
-    ensures { λ r. ⌜ r ≡ headerCall (now (objects .entry)) (now (slots .entry)) (now (payload .entry)) (now (layout .entry)) object ⌝ }
+    ensures { λ r. ⌜ headerNumbers r
+        ≡ headerNumbers (headerCall (now (objects .entry)) (now (slots .entry)) (now (payload .entry)) (now (layout .entry)) object) ⌝ }
 {
     match check_header(objects, slots, payload, layout, object) {
         Check::Ok => {
             let o = store::object_of(objects, object);
-            header_of(slots, payload, o, tables::layout_of(layout))
+            header_at_unchecked(slots, payload, o, tables::layout_of(layout))
         }
         Check::Refused(refusal) => HeaderAnswer::Refused(refusal),
     }
@@ -85,12 +87,13 @@ pub fn smi_slot(
     object: usize,
     slot: u64,
 ) -> SmiAnswer
-    ensures { λ r. ⌜ r ≡ smiCall (now (objects .entry)) (now (slots .entry)) (now (payload .entry)) ts object slot ⌝ }
+    ensures { λ r. ⌜ smiSlotNumbers r
+        ≡ smiSlotNumbers (smiCall (now (objects .entry)) (now (slots .entry)) (now (payload .entry)) ts object slot) ⌝ }
 {
     match check_at(objects, slots, payload, object) {
         Check::Ok => {
             let o = store::object_of(objects, object);
-            SmiAnswer::Smi(smi_slot_of(slots, payload, o.first, o.count, ts, slot))
+            SmiAnswer::Smi(smi_slot_unchecked(slots, payload, o.first, o.count, ts, slot))
         }
         Check::Refused(refusal) => SmiAnswer::Refused(refusal),
     }
@@ -105,12 +108,21 @@ pub fn num_field(
     slot: u64,
     flags_smi: bool,
 ) -> NumAnswer
-    ensures { λ r. ⌜ r ≡ numCall (now (objects .entry)) (now (slots .entry)) (now (payload .entry)) ts object slot «flags_smi» ⌝ }
+    ensures { λ r. ⌜ numFieldNumbers r
+        ≡ numFieldNumbers (numCall (now (objects .entry)) (now (slots .entry)) (now (payload .entry)) ts object slot «flags_smi») ⌝ }
 {
     match check_at(objects, slots, payload, object) {
         Check::Ok => {
             let o = store::object_of(objects, object);
-            NumAnswer::Num(num_field_of(slots, payload, o.first, o.count, ts, slot, flags_smi))
+            NumAnswer::Num(num_field_unchecked(
+                slots,
+                payload,
+                o.first,
+                o.count,
+                ts,
+                slot,
+                flags_smi,
+            ))
         }
         Check::Refused(refusal) => NumAnswer::Refused(refusal),
     }
@@ -145,7 +157,12 @@ fn check_header(objects: &[u8], slots: &[u8], payload: &[u8], layout: &[u8], obj
 // The header.
 
 // The header of an object by its slots, or row 9.
-pub fn header_of(slots: &[u8], payload: &[u8], object: Object, layout: Layout) -> HeaderAnswer
+pub fn header_at_unchecked(
+    slots: &[u8],
+    payload: &[u8],
+    object: Object,
+    layout: Layout,
+) -> HeaderAnswer
     ensures { λ r. ⌜ r ≡ headerSearched (now (slots .entry)) (now (payload .entry)) object layout ⌝ }
 {
     let length = length_of(slots, payload, object, layout);
@@ -165,7 +182,7 @@ fn length_of(slots: &[u8], payload: &[u8], object: Object, layout: Layout) -> i6
 {
     let ts = layout.tagged_size;
     let off = length_off(slots, object, layout);
-    let field = serializer::raw_place(slots, object.first, object.count, ts, off, ts as u64);
+    let field = serializer::raw_at_unchecked(slots, object.first, object.count, ts, off, ts as u64);
     smi_or_0(payload, ts, field)
 }
 
@@ -175,7 +192,7 @@ fn length_off(slots: &[u8], object: Object, layout: Layout) -> u64
 {
     let field = layout.length;
     match field {
-        Field::At(off) => serializer::rt_off(
+        Field::At(off) => serializer::bca_rt_off_unchecked(
             slots,
             object.first,
             object.count,
@@ -249,8 +266,8 @@ fn raw_from(slots: &[u8], object: Object, layout: Layout, off: u32, len: u32) ->
     let first = object.first;
     let count = object.count;
     let ts = layout.tagged_size;
-    let at = serializer::rt_off(slots, first, count, ts, layout.unit, off);
-    serializer::raw_place(slots, first, count, ts, at, len as u64)
+    let at = serializer::bca_rt_off_unchecked(slots, first, count, ts, layout.unit, off);
+    serializer::raw_at_unchecked(slots, first, count, ts, at, len as u64)
 }
 
 fn u32_found(payload: &[u8], field: RawAt) -> u32
@@ -297,14 +314,21 @@ fn code_of(slots: &[u8], object: Object, layout: Layout, n: u32) -> Span
 // Numbers in slots.
 
 // smi_slot of an object's slots: it tests neither the low half nor bit 0.
-pub fn smi_slot_of(slots: &[u8], payload: &[u8], first: u32, count: u32, ts: u8, slot: u64) -> Smi
+pub fn smi_slot_unchecked(
+    slots: &[u8],
+    payload: &[u8],
+    first: u32,
+    count: u32,
+    ts: u8,
+    slot: u64,
+) -> Smi
     ensures { λ r. ⌜ r ≡ smiBy (now (payload .entry)) (rawSearched (now (slots .entry)) first count ts) ts slot ⌝ }
 {
     smi_raw(payload, ts, slot_raw(slots, first, count, ts, slot, ts))
 }
 
 // num_field of an object's slots.
-pub fn num_field_of(
+pub fn num_field_unchecked(
     slots: &[u8],
     payload: &[u8],
     first: u32,
@@ -316,7 +340,7 @@ pub fn num_field_of(
     ensures { λ r. ⌜ r ≡ fieldNum (now (payload .entry)) (rawSearched (now (slots .entry)) first count ts) ts slot «flags_smi» ⌝ }
 {
     let plain = plain_num(payload, slot_raw(slots, first, count, ts, slot, 4));
-    let tagged = smi_num(smi_slot_of(slots, payload, first, count, ts, slot));
+    let tagged = smi_num(smi_slot_unchecked(slots, payload, first, count, ts, slot));
     num_by(flags_smi, plain, tagged)
 }
 
@@ -327,7 +351,7 @@ fn slot_raw(slots: &[u8], first: u32, count: u32, ts: u8, slot: u64, len: u8) ->
     if 4294967295 < slot {
         return RawAt::Nothing;
     }
-    serializer::raw_place(slots, first, count, ts, slot * ts as u64, len as u64)
+    serializer::raw_at_unchecked(slots, first, count, ts, slot * ts as u64, len as u64)
 }
 
 fn smi_raw(payload: &[u8], ts: u8, field: RawAt) -> Smi

@@ -14,7 +14,7 @@ use Rattle.serializer.specs.Down.{down}
 use Rattle.serializer.specs.Slots.{slotAt}
 use Rattle.serializer.specs.Element.{elemAt}
 use Rattle.tables.specs.Names.{nameOk, nameAt, isNamed}
-use Rattle.tables.specs.Records.{width, prefixOp, typeNames, nameFits, sizeGood, sizeFits, opcodeOk}
+use Rattle.tables.specs.Records.{width, firstMarked, typeNames, nameFits, sizeGood, sizeFits, opcodeOk}
 use Rattle.tables.specs.Layout.{ranges, rangeOf, layoutOf}
 use Rattle.tables.specs.Check.{wholeRecords, checkTable}
 use Rattle.operand.specs.Operand.{kinds, kindOf, ofKind, interpret, isList}
@@ -65,7 +65,7 @@ pub target-cases :
     ∷ target-answer.Refused (refusalAt 8 0) ∷ [])
 unfolding targetCall targetOf opcodes opcode typed types padded four fours layout checkTable wholeRecords within firstFrom nameOk opcodeOk sizeFits sizeGood nameFits isNamed typeNames
     ranges rangeOf leAt checkStore sizesOk objectOk slotOk valueOk fieldsOk falls fallsIn objectOf slotOf layoutOf poolBy slotAt poolElem elemAt down smiBytes decodeAt headAt
-    prefixOp readParts partsFrom width isList kinds kindOf ofKind interpret modulo wrap32 signed nameAt flowNames flows flowNumber flowBy operandOf indexOf
+    firstMarked readParts partsFrom width isList kinds kindOf ofKind interpret modulo wrap32 signed nameAt flowNames flows flowNumber flowBy operandOf indexOf
     numberOf distanceBy jumpTarget
 target-cases = refl
 
@@ -80,7 +80,7 @@ pub table-cases :
     ≡ (table-answer.At (record { start = 0; count = 2; base = pos 5 }) ∷ table-answer.Nothing ∷ [])
 unfolding tableCall tableOf opcodes opcode typed types padded four fours layout checkTable wholeRecords within firstFrom nameOk opcodeOk sizeFits sizeGood nameFits isNamed typeNames
     ranges rangeOf leAt checkStore sizesOk objectOk slotOk valueOk fieldsOk falls fallsIn objectOf slotOf layoutOf poolBy slotAt decodeAt headAt
-    prefixOp readParts partsFrom width isList kinds kindOf ofKind interpret modulo wrap32 signed nameAt flowNames flows flowNumber flowBy operandOf indexOf
+    firstMarked readParts partsFrom width isList kinds kindOf ofKind interpret modulo wrap32 signed nameAt flowNames flows flowNumber flowBy operandOf indexOf
     numberOf jumpTable tableBy sizedBy
 table-cases = refl
 
@@ -96,7 +96,7 @@ pub entry-cases :
     ≡ (entry-answer.Shown (pos 5) 4 ∷ entry-answer.Skipped ∷ entry-answer.Beyond ∷ entry-answer.Nothing ∷ entry-answer.Nothing ∷ entry-answer.End ∷ [])
 unfolding entryCall tableCall tableOf opcodes opcode typed types padded four fours layout checkTable wholeRecords within firstFrom nameOk opcodeOk sizeFits sizeGood nameFits isNamed typeNames
     ranges rangeOf leAt checkStore sizesOk objectOk slotOk valueOk fieldsOk falls fallsIn objectOf slotOf layoutOf poolBy slotAt poolElem elemAt down smiBytes decodeAt headAt
-    prefixOp readParts partsFrom width isList kinds kindOf ofKind interpret modulo wrap32 signed nameAt flowNames flows flowNumber flowBy operandOf indexOf
+    firstMarked readParts partsFrom width isList kinds kindOf ofKind interpret modulo wrap32 signed nameAt flowNames flows flowNumber flowBy operandOf indexOf
     numberOf jumpTable tableBy sizedBy entryAt
 entry-cases = refl
 
@@ -110,12 +110,12 @@ twoSwitches = 0x00 ∷ 0x00 ∷ 0x01 ∷ 0x05 ∷ 0x00 ∷ 0x00 ∷ 0xff ∷ 0x0
 pub sixteen-case : tableCall (files signedSwitch) (object.Object 0) twoSwitches 4 ≡ table-answer.Refused (refusalAt 16 4)
 unfolding tableCall tableOf opcode typed types padded four fours layout checkTable wholeRecords within firstFrom nameOk opcodeOk sizeFits sizeGood nameFits isNamed typeNames
     ranges rangeOf leAt checkStore sizesOk objectOk slotOk valueOk fieldsOk falls fallsIn objectOf slotOf layoutOf poolBy slotAt decodeAt headAt
-    prefixOp readParts partsFrom width isList kinds kindOf ofKind interpret modulo wrap32 signed nameAt flowNames flows flowNumber flowBy operandOf indexOf
+    firstMarked readParts partsFrom width isList kinds kindOf ofKind interpret modulo wrap32 signed nameAt flowNames flows flowNumber flowBy operandOf indexOf
     numberOf jumpTable tableBy sizedBy
 sixteen-case = refl
 
 pub sixteen-target : targetCall (files signedSwitch) (object.Object 0) twoSwitches 4 ≡ target-answer.Nothing
 unfolding targetCall targetOf opcode typed types padded four fours layout checkTable wholeRecords within firstFrom nameOk opcodeOk sizeFits sizeGood nameFits isNamed typeNames
     ranges rangeOf leAt checkStore sizesOk objectOk slotOk valueOk fieldsOk falls fallsIn objectOf slotOf layoutOf poolBy slotAt decodeAt headAt
-    prefixOp readParts partsFrom width isList kinds kindOf ofKind interpret modulo wrap32 signed nameAt flowNames flows flowNumber flowBy jumpTarget
+    firstMarked readParts partsFrom width isList kinds kindOf ofKind interpret modulo wrap32 signed nameAt flowNames flows flowNumber flowBy jumpTarget
 sixteen-target = refl

@@ -8,7 +8,7 @@ use Rattle.refusal.specs.Check.{refusalAt, guarded}
 use Rattle.serializer.specs.declared.Elem.{Elem}
 use Rattle.decoder.specs.declared.Outcome.{Outcome}
 use Rattle.decoder.specs.declared.Decoded.{Decoded}
-use Rattle.flow.specs.Flow.{flowOf}
+use Rattle.flow.specs.Opcodes.{Opcodes, opcodesOf}
 use Rattle.targets.specs.declared.Target.{Target}
 use Rattle.targets.specs.declared.Target.the-variants as target
 use Rattle.targets.specs.declared.Table.{Table}
@@ -38,12 +38,12 @@ targetAfter (Outcome.Refused r) answer = target-answer.Refused r
 targetAfter Outcome.Done answer = answer
 
 -- the target of what was decoded, for the elements of a pool
-unfoldable pub targetOf : List ℕ → (ℕ → Elem) → Decoded → TargetAnswer
-targetOf ops el d = targetAfter (d .outcome) (targetTold (jumpTarget el (flowOf ops (d .instr .opcode)) (d .instr)))
+unfoldable pub targetOf : Opcodes → (ℕ → Elem) → Decoded → TargetAnswer
+targetOf ops el d = targetAfter (d .outcome) (targetTold (jumpTarget el (ops .flow (d .instr .opcode)) (d .instr)))
 
 -- 01's `jump_target`
 unfoldable pub targetCall : Files → PoolObject → List ℕ → ℕ → TargetAnswer
-targetCall f w code at = guarded (checkLent f w code) target-answer.Refused (targetOf (f .opcodes) (lentElem f w) (decodedAt f code at))
+targetCall f w code at = guarded (checkLent f w code) target-answer.Refused (targetOf (opcodesOf (f .opcodes)) (lentElem f w) (decodedAt f code at))
 
 -- 16: "entry count below 0 or above 4,096"; its place is the instruction's start
 abbrev pub tableTold : Table → ℕ → TableAnswer
@@ -57,12 +57,12 @@ tableAfter (Outcome.Refused r) answer = table-answer.Refused r
 tableAfter Outcome.Done answer = answer
 
 -- the table of what was decoded at a place, by whether a pool is found
-unfoldable pub tableOf : List ℕ → Bool → Decoded → ℕ → TableAnswer
-tableOf ops pooled d at = tableAfter (d .outcome) (tableTold (jumpTable pooled (flowOf ops (d .instr .opcode)) (d .instr)) at)
+unfoldable pub tableOf : Opcodes → Bool → Decoded → ℕ → TableAnswer
+tableOf ops pooled d at = tableAfter (d .outcome) (tableTold (jumpTable pooled (ops .flow (d .instr .opcode)) (d .instr)) at)
 
 -- 01's `jump_table`
 unfoldable pub tableCall : Files → PoolObject → List ℕ → ℕ → TableAnswer
-tableCall f w code at = guarded (checkLent f w code) table-answer.Refused (tableOf (f .opcodes) (found (lentPool f w)) (decodedAt f code at) at)
+tableCall f w code at = guarded (checkLent f w code) table-answer.Refused (tableOf (opcodesOf (f .opcodes)) (found (lentPool f w)) (decodedAt f code at) at)
 
 -- "Elements that are no small integer are skipped."
 abbrev pub entryTold : Entry → EntryAnswer

@@ -1,7 +1,6 @@
 // The target of a jump, and the table of a switch and its entries, at a place of lent code, with 01's checks of all that is lent.
 use decoder::Decoded;
 use decoder::Outcome;
-use flow::Flow;
 use function::PoolObject;
 use refusal::Check;
 use refusal::Refusal;
@@ -11,10 +10,11 @@ use targets::Pool;
 use targets::Table;
 use targets::Target;
 ghost use mathlib.Core.Path.{_≡_};
-ghost use mathlib.Core.List.{[]};
-ghost use Rattle.flow.specs.Flow.{flowOf};
+ghost use Rattle.flow.specs.Opcodes.{opcodesOf};
 ghost use Rattle.targets.specs.Targets.{found};
 ghost use Rattle.targets.specs.mirror.Search.{poolSearched};
+ghost use Rattle.function.specs.Files.{lentFiles};
+ghost use Rattle.jumps.specs.Numbers.{targetNumbers, tableNumbers, entryNumbers};
 ghost use Rattle.jumps.specs.Jumps.{targetTold, targetOf, targetCall, tableTold, tableOf, tableCall, entryTold, entryIn, entryOf, entryCall};
 
 // Where a jump goes. End is the code's end; Nothing is no target.
@@ -56,7 +56,9 @@ pub fn jump_target(
     payload: &[u8],
     object: PoolObject,
 ) -> TargetAnswer
-    ensures { λ r. ⌜ r ≡ targetCall (record { opcodes = now (opcodes .entry); types = now (types .entry); runtime = []; intrinsic = []; layout = now (layout .entry); objects = now (objects .entry); slots = now (slots .entry); payload = now (payload .entry) }) object (now (code .entry)) at ⌝ }
+    ensures { λ r. ⌜ targetNumbers at r ≡ targetNumbers at (targetCall
+        (lentFiles (now (opcodes .entry)) (now (types .entry)) (now (layout .entry)) (now (objects .entry)) (now (slots .entry)) (now (payload .entry)))
+        object (now (code .entry)) at) ⌝ }
 {
     match function::check_lent(
         code,
@@ -72,7 +74,7 @@ pub fn jump_target(
         Check::Ok => {
             let shape = tables::layout_of(layout);
             let pool = function::lent_pool(objects, slots, shape, object);
-            let d = bytecode::decode_with(opcodes, types, layout, code, at);
+            let d = bytecode::decode_unchecked(opcodes, types, layout, code, at);
             target_of(opcodes, slots, payload, shape.tagged_size, pool, d)
         }
     }
@@ -90,7 +92,9 @@ pub fn jump_table(
     payload: &[u8],
     object: PoolObject,
 ) -> TableAnswer
-    ensures { λ r. ⌜ r ≡ tableCall (record { opcodes = now (opcodes .entry); types = now (types .entry); runtime = []; intrinsic = []; layout = now (layout .entry); objects = now (objects .entry); slots = now (slots .entry); payload = now (payload .entry) }) object (now (code .entry)) at ⌝ }
+    ensures { λ r. ⌜ tableNumbers at r ≡ tableNumbers at (tableCall
+        (lentFiles (now (opcodes .entry)) (now (types .entry)) (now (layout .entry)) (now (objects .entry)) (now (slots .entry)) (now (payload .entry)))
+        object (now (code .entry)) at) ⌝ }
 {
     match function::check_lent(
         code,
@@ -106,7 +110,7 @@ pub fn jump_table(
         Check::Ok => {
             let shape = tables::layout_of(layout);
             let pool = function::lent_pool(objects, slots, shape, object);
-            let d = bytecode::decode_with(opcodes, types, layout, code, at);
+            let d = bytecode::decode_unchecked(opcodes, types, layout, code, at);
             table_of(opcodes, pool, d, at)
         }
     }
@@ -125,7 +129,9 @@ pub fn jump_entry(
     object: PoolObject,
     k: usize,
 ) -> EntryAnswer
-    ensures { λ r. ⌜ r ≡ entryCall (record { opcodes = now (opcodes .entry); types = now (types .entry); runtime = []; intrinsic = []; layout = now (layout .entry); objects = now (objects .entry); slots = now (slots .entry); payload = now (payload .entry) }) object (now (code .entry)) at k ⌝ }
+    ensures { λ r. ⌜ entryNumbers at r ≡ entryNumbers at (entryCall
+        (lentFiles (now (opcodes .entry)) (now (types .entry)) (now (layout .entry)) (now (objects .entry)) (now (slots .entry)) (now (payload .entry)))
+        object (now (code .entry)) at k) ⌝ }
 {
     match function::check_lent(
         code,
@@ -141,21 +147,13 @@ pub fn jump_entry(
         Check::Ok => {
             let shape = tables::layout_of(layout);
             let pool = function::lent_pool(objects, slots, shape, object);
-            let d = bytecode::decode_with(opcodes, types, layout, code, at);
+            let d = bytecode::decode_unchecked(opcodes, types, layout, code, at);
             let table = table_of(opcodes, pool, d, at);
             let instr = d.instr;
             let from = targets::here(instr);
             entry_of(slots, payload, shape.tagged_size, pool, from, table, k)
         }
     }
-}
-
-// What an opcode does.
-fn flow_of(opcodes: &[u8], opcode: u8) -> Flow
-    ensures { λ r. ⌜ r ≡ flowOf (now (opcodes .entry)) opcode ⌝ }
-{
-    let op = opcode as usize;
-    flow::flow_by(flow::flow_number(opcodes, op * 64))
 }
 
 // The target of what was decoded.
@@ -167,7 +165,7 @@ fn target_of(
     pool: Pool,
     d: Decoded,
 ) -> TargetAnswer
-    ensures { λ r. ⌜ r ≡ targetOf (now (opcodes .entry)) (poolSearched (now (slots .entry)) (now (payload .entry)) ts pool) d ⌝ }
+    ensures { λ r. ⌜ r ≡ targetOf (opcodesOf (now (opcodes .entry))) (poolSearched (now (slots .entry)) (now (payload .entry)) ts pool) d ⌝ }
 {
     let outcome = d.outcome;
     let instr = d.instr;
@@ -175,15 +173,15 @@ fn target_of(
         Outcome::End => TargetAnswer::End,
         Outcome::Refused(refusal) => TargetAnswer::Refused(refusal),
         Outcome::Done => {
-            let flow = flow_of(opcodes, instr.opcode);
-            target_told(targets::jump_target(slots, payload, ts, pool, flow, instr))
+            let flow = flow::flow_of(opcodes, instr.opcode);
+            target_told(targets::jump_target_unchecked(slots, payload, ts, pool, flow, instr))
         }
     }
 }
 
 // The table of what was decoded at a place.
 fn table_of(opcodes: &[u8], pool: Pool, d: Decoded, at: usize) -> TableAnswer
-    ensures { λ r. ⌜ r ≡ tableOf (now (opcodes .entry)) (found pool) d at ⌝ }
+    ensures { λ r. ⌜ r ≡ tableOf (opcodesOf (now (opcodes .entry))) (found pool) d at ⌝ }
 {
     let outcome = d.outcome;
     let instr = d.instr;
@@ -191,8 +189,8 @@ fn table_of(opcodes: &[u8], pool: Pool, d: Decoded, at: usize) -> TableAnswer
         Outcome::End => TableAnswer::End,
         Outcome::Refused(refusal) => TableAnswer::Refused(refusal),
         Outcome::Done => {
-            let flow = flow_of(opcodes, instr.opcode);
-            table_told(targets::jump_table(pool, flow, instr), at)
+            let flow = flow::flow_of(opcodes, instr.opcode);
+            table_told(targets::jump_table_unchecked(pool, flow, instr), at)
         }
     }
 }
@@ -229,7 +227,7 @@ fn entry_in(
     ensures { λ r. ⌜ r ≡ entryIn (poolSearched (now (slots .entry)) (now (payload .entry)) ts pool) from e k ⌝ }
 {
     if k < e.count as usize {
-        entry_told(targets::entry_at(slots, payload, ts, pool, from, e, k as u16))
+        entry_told(targets::jump_entry_unchecked(slots, payload, ts, pool, from, e, k as u16))
     } else {
         EntryAnswer::Beyond
     }

@@ -1,3 +1,3 @@
-pub mod Written
+pub mod PutUpTo
 pub mod Laws
 pub mod Room

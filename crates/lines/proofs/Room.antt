@@ -13,9 +13,11 @@ use Rattle.text.specs.Texts.{signedDecimal, hexByte, hexBytes}
 use Rattle.text.proofs.Texts.{either, digits-few, next-length}
 use Rattle.tables.specs.declared.Frame.{Frame}
 use Rattle.tables.specs.Names.{nameAt, isZero}
+use Rattle.tables.specs.Records.{opcodeNameSize, opcodeStart}
 use Rattle.tables.specs.Texts.{runtimeName, intrinsicName}
 use Rattle.operand.specs.declared.Operand.{Operand}
 use Rattle.decoder.specs.declared.Instr.{Instr}
+use Rattle.flow.specs.Opcodes.{Opcodes, opcodesOf}
 use Rattle.flow.specs.declared.Kind.{Kind}
 use Rattle.flow.specs.declared.Flow.{Flow}
 use Rattle.bytecode.specs.Texts.{NameFiles, paramName, regName, listName, operandText, instrName}
@@ -57,12 +59,19 @@ intrinsic-room : (s : List ℕ) (id : ℕ) → length (intrinsicName s id) ≤ 6
 unfolding intrinsicName
 intrinsic-room s id = either (ltb id (length s / 64)) _ _ (name-room s _ 64) (simp length-append (omega (arith, digits-few id)))
 
-instr-room : (ops : List ℕ) (opcode scale : ℕ) → length (instrName ops opcode scale) ≤ 50
+-- an opcode's name takes no more than its field
+abbrev pub NamesFit : Opcodes → Type 0
+NamesFit ops = (op : ℕ) → length (ops .name op) ≤ opcodeNameSize
+
+pub names-fit : (s : List ℕ) → NamesFit (opcodesOf s)
+names-fit s op = name-room s (opcodeStart op) opcodeNameSize
+
+instr-room : (ops : Opcodes) → NamesFit ops → (opcode scale : ℕ) → length (instrName ops opcode scale) ≤ 50
 unfolding instrName
-instr-room ops opcode scale =
+instr-room ops short opcode scale =
     let h : length (cond (eqb scale 1) [] (cond (eqb scale 2) (ascii ".Wide") (ascii ".ExtraWide"))) ≤ 10 =
     either (eqb scale 1) _ _ (omega arith) (either (eqb scale 2) _ _ (omega arith) (omega arith)) in
-    rw length-append (omega (arith, name-room ops (opcode * 64) 40))
+    rw length-append (omega (arith, short opcode))
 
 -- ---- operands
 
@@ -146,13 +155,13 @@ place-room code i =
     simp (length-append, length-replicate)
     (omega (arith, digits-few (i .offset), hex-room (bytesOf code i), length-take (i .end - i .offset) (drop (i .offset) code)))
 
-pub line-room : (v : View) (flow : Flow) (i : Instr) → length (lineBy v flow i) ≤ lineRoom flow i (jumpTable (v .pooled) flow i)
+pub line-room : (v : View) → NamesFit (v .opcodes) → (flow : Flow) (i : Instr) → length (lineBy v flow i) ≤ lineRoom flow i (jumpTable (v .pooled) flow i)
 unfolding lineRoom lineBy jumpTarget
-line-room v flow i =
+line-room v short flow i =
     simp length-append (omega (
       arith,
       simp length-append at (place-room (v .code) i),
-      instr-room (v .opcodes) (i .opcode) (i .scale),
+      instr-room (v .opcodes) short (i .opcode) (i .scale),
       operands-room (v .frame) (v .params) (v .names) i 0 (min (i .count) 8),
       target-room (flow .kind) (here i) (distanceBy (v .elem) (flow .pool) (operandOf i (flow .first))),
       table-room (v .elem) (here i) (jumpTable (v .pooled) flow i),

@@ -10,7 +10,7 @@ use Rattle.text.specs.Texts.{decimal, signedDecimal, hexBytes, padLeft, padRigh
 use Rattle.tables.specs.declared.Frame.{Frame}
 use Rattle.decoder.specs.declared.Instr.{Instr}
 use Rattle.flow.specs.declared.Flow.{Flow}
-use Rattle.flow.specs.Flow.{flowOf}
+use Rattle.flow.specs.Opcodes.{Opcodes}
 use Rattle.bytecode.specs.Texts.{NameFiles, operandText, instrName}
 use Rattle.serializer.specs.declared.Elem.{Elem}
 use Rattle.targets.specs.Targets.{operandOf, here, jumpTarget, jumpTable, entryAt}
@@ -22,10 +22,10 @@ use Rattle.targets.specs.declared.Table.the-variants as table
 use Rattle.targets.specs.declared.Entry.{Entry}
 use Rattle.targets.specs.declared.Entry.the-variants as entry
 
--- what the lines of a function are made from: its code, the table's files, the registers, the parameter count, and the pool
+-- what the lines of a function are made from: its code, the opcodes, the files of names, the registers, the parameter count, and the pool
 pub record View : Type 0 where
   pub code : List ℕ
-  pub opcodes : List ℕ
+  pub opcodes : Opcodes
   pub names : NameFiles
   pub frame : Frame
   pub params : ℤ
@@ -83,4 +83,4 @@ lineBy v flow i =
     ++ tableText (v .elem) (here i) (jumpTable (v .pooled) flow i) ++ ascii "\n"
 
 abbrev pub lineText : View → Instr → List ℕ
-lineText v i = lineBy v (flowOf (v .opcodes) (i .opcode)) i
+lineText v i = lineBy v (v .opcodes .flow (i .opcode)) i

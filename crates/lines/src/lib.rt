@@ -2,10 +2,9 @@
 use decoder::Instr;
 use flow::Flow;
 use flow::Kind;
-use tables::Frame;
+use function::Function;
 use targets::Entries;
 use targets::Entry;
-use targets::Pool;
 use targets::Table;
 use targets::Target;
 ghost use mathlib.Core.Path.{_≡_};
@@ -14,10 +13,9 @@ ghost use mathlib.Core.Bool.{cond, false};
 ghost use Rattle.laws.specs.Ascii.{ascii};
 ghost use Prim.Native.Nat.{_-_, min};
 ghost use Rattle.text.specs.Put.{Put, place};
-ghost use Rattle.targets.specs.Targets.{found};
-ghost use Rattle.targets.specs.mirror.Search.{poolSearched};
 ghost use Rattle.lines.specs.Room.{entriesOf, targetRoom, lineRoom};
-ghost use Rattle.lines.specs.Line.{View, before, operandsBy, placeText, targetText, entryText, shownAfter, entriesFrom, tableText, lineBy};
+ghost use Rattle.lines.specs.Line.{before, operandsBy, placeText, targetText, entryText, shownAfter, entriesFrom, tableText, lineBy};
+ghost use Rattle.lines.specs.mirror.View.{namesOf, elemsOf, viewOf};
 
 // A line, from the start of the buffer it is lent: offset, bytes, name, operands, target and entries.
 pub fn put_line(
@@ -29,23 +27,23 @@ pub fn put_line(
     intrinsic: &[u8],
     slots: &[u8],
     payload: &[u8],
-    ts: u8,
-    pool: Pool,
-    frame: Frame,
-    params: i32,
+    f: Function,
     flow: Flow,
     instr: Instr,
 ) -> usize
-    ensures { λ r. ⌜ Put (now (out .entry)) 0 (lineBy (record { code = now (code .entry); opcodes = now (opcodes .entry); names = record { types = now (types .entry); runtime = now (runtime .entry); intrinsic = now (intrinsic .entry) }; frame = frame; params = params; pooled = found pool; elem = poolSearched (now (slots .entry)) (now (payload .entry)) ts pool }) flow instr) (now (out .exit)) r ⌝ }
+    ensures { λ r. ⌜ Put (now (out .entry)) 0
+        (lineBy (viewOf (now (code .entry)) (now (opcodes .entry)) (now (types .entry)) (now (runtime .entry)) (now (intrinsic .entry))
+        (now (slots .entry)) (now (payload .entry)) f) flow instr) (now (out .exit)) r ⌝ }
 {
+    let pool = f.pool;
     let p = put_place(out, code, instr);
     let p = bytecode::instr_name(out, p, opcodes, instr.opcode, instr.scale);
-    let p = put_operands(out, p, types, runtime, intrinsic, frame, params, instr);
-    let target = targets::jump_target(slots, payload, ts, pool, flow, instr);
+    let p = put_operands(out, p, types, runtime, intrinsic, f, instr);
+    let target = targets::jump_target_unchecked(slots, payload, f.ts, pool, flow, instr);
     let p = put_target(out, p, target);
-    let table = targets::jump_table(pool, flow, instr);
+    let table = targets::jump_table_unchecked(pool, flow, instr);
     let at = targets::here(instr);
-    let p = put_table(out, p, slots, payload, ts, pool, at, table);
+    let p = put_table(out, p, slots, payload, f, at, table);
     text::put_byte(out, p, b'\n')
 }
 
@@ -115,19 +113,21 @@ fn put_operands(
     types: &[u8],
     runtime: &[u8],
     intrinsic: &[u8],
-    frame: Frame,
-    params: i32,
+    f: Function,
     instr: Instr,
 ) -> usize
-    ensures { λ r. ⌜ Put (now (out .entry)) at (operandsBy (record { types = now (types .entry); runtime = now (runtime .entry); intrinsic = now (intrinsic .entry) }) frame params instr 0 (min (instr .count) 8)) (now (out .exit)) r ⌝ }
+    ensures { λ r. ⌜ Put (now (out .entry)) at
+        (operandsBy (namesOf (now (types .entry)) (now (runtime .entry)) (now (intrinsic .entry))) (f .frame) (f .params) instr 0 (min (instr .count) 8))
+        (now (out .exit)) r ⌝ }
 {
+    let frame = f.frame;
     let n = text::min(instr.count, 8);
     let mut p = text::saturating_add(at, 0);
     let mut k: usize = 0;
     while k < n {
         let op = targets::operand_of(instr, k as u8);
         p = put_before(out, p, k);
-        p = bytecode::render_operand(out, p, types, runtime, intrinsic, frame, params, op);
+        p = bytecode::render_operand(out, p, types, runtime, intrinsic, frame, f.params, op);
         k += 1;
     }
     p
@@ -162,19 +162,18 @@ fn put_table(
     at: usize,
     slots: &[u8],
     payload: &[u8],
-    ts: u8,
-    pool: Pool,
+    f: Function,
     here: u64,
     table: Table,
 ) -> usize
-    ensures { λ r. ⌜ Put (now (out .entry)) at (tableText (poolSearched (now (slots .entry)) (now (payload .entry)) ts pool) here table) (now (out .exit)) r ⌝ }
+    ensures { λ r. ⌜ Put (now (out .entry)) at (tableText (elemsOf (now (slots .entry)) (now (payload .entry)) f) here table) (now (out .exit)) r ⌝ }
 {
     match table {
         Table::Nothing => text::saturating_add(at, 0),
         Table::Refused => text::saturating_add(at, 0),
         Table::At(e) => {
             let p = text::put_bytes(out, at, b" {");
-            let p = put_entries(out, p, slots, payload, ts, pool, here, e);
+            let p = put_entries(out, p, slots, payload, f, here, e);
             text::put_bytes(out, p, b" }")
         }
     }
@@ -185,19 +184,20 @@ fn put_entries(
     at: usize,
     slots: &[u8],
     payload: &[u8],
-    ts: u8,
-    pool: Pool,
+    f: Function,
     here: u64,
     e: Entries,
 ) -> usize
-    ensures { λ r. ⌜ Put (now (out .entry)) at (entriesFrom (poolSearched (now (slots .entry)) (now (payload .entry)) ts pool) here e false 0 (e .count)) (now (out .exit)) r ⌝ }
+    ensures { λ r. ⌜ Put (now (out .entry)) at
+        (entriesFrom (elemsOf (now (slots .entry)) (now (payload .entry)) f) here e false 0 (e .count)) (now (out .exit)) r ⌝ }
 {
+    let pool = f.pool;
     let n = e.count;
     let mut p = text::saturating_add(at, 0);
     let mut shown = false;
     let mut k: u16 = 0;
     while k < n {
-        let entry = targets::entry_at(slots, payload, ts, pool, here, e, k);
+        let entry = targets::jump_entry_unchecked(slots, payload, f.ts, pool, here, e, k);
         p = put_entry(out, p, shown, entry);
         shown = shown_after(shown, entry);
         k += 1;

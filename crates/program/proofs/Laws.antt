@@ -27,21 +27,22 @@ use Rattle.header.specs.Header.{headerOf}
 use Rattle.targets.specs.declared.Pool.{Pool}
 use Rattle.targets.specs.Targets.{poolElem}
 use Rattle.decoder.specs.Listed.{listed}
-use Rattle.disasm.specs.declared.Listed.{Listed}
+use Rattle.text.specs.declared.Written.{Written}
+use Rattle.text.specs.Written.{putText}
 use Rattle.function.specs.Files.{Files, checkFiles}
 use Rattle.function.specs.Pool.{poolOf}
 use Rattle.function.specs.Code.{headerCheck, headerAt, listingCheck}
-use Rattle.disasm.specs.Listing.{headerText, linesText, putText, viewBy, listView, listHeader, listObject, listCall}
+use Rattle.disasm.specs.Listing.{headerText, linesText, viewBy, listView, listHeader, listObject, listCall}
 use Rattle.walk.specs.declared.Walked.{Walked}
 use Rattle.walk.specs.Walk.{walkCheck, walkFound, walkSource, objectSource, walkCall}
 use Rattle.program.specs.Printed.{refusalText, withinLimit, limitCheck, limited, told, shown, Printed, walkText, walkLimited, walkAnswer, walkShown}
 use Rattle.walk.specs.declared.Walked.the-variants as walked
 use Rattle.walk.specs.Walk as walk
 use Rattle.header.specs.declared.HeaderAnswer.the-variants as header-answer
-use Rattle.disasm.specs.declared.Listed.the-variants as listed-as
+use Rattle.text.specs.declared.Written.the-variants as written
 
 -- a check made twice says what it says once
-once : (a b : Check) (o : List ℕ) (x : Listed × List ℕ) → guardedOn (firstRefusal a Ok) listed-as.Refused o (guardedOn (firstRefusal a b) listed-as.Refused o x) ≡ guardedOn (firstRefusal a b) listed-as.Refused o x
+once : (a b : Check) (o : List ℕ) (x : Written × List ℕ) → guardedOn (firstRefusal a Ok) written.Refused o (guardedOn (firstRefusal a b) written.Refused o x) ≡ guardedOn (firstRefusal a b) written.Refused o x
 once Ok b o x = refl
 once (Refused r) b o x = refl
 
@@ -55,11 +56,11 @@ within f o h =
 -- ---- what is shown does not depend on what the buffer held
 
 -- a call on a buffer, which either refuses every buffer or puts one text into it
-data Call (g : List ℕ → Listed × List ℕ) : Type 0 where
-  refuses : (r : Refusal) → ((o : List ℕ) → g o ≡ (listed-as.Refused r, o)) → Call g
+data Call (g : List ℕ → Written × List ℕ) : Type 0 where
+  refuses : (r : Refusal) → ((o : List ℕ) → g o ≡ (written.Refused r, o)) → Call g
   puts : (t : List ℕ) → ((o : List ℕ) → g o ≡ putText t o) → Call g
 
-checked : (c : Check) (g : List ℕ → Listed × List ℕ) → Call g → Call (λ o. guardedOn c listed-as.Refused o (g o))
+checked : (c : Check) (g : List ℕ → Written × List ℕ) → Call g → Call (λ o. guardedOn c written.Refused o (g o))
 checked Ok g s = s
 checked (Refused r) g s = refuses r (λ o. refl)
 
@@ -68,7 +69,7 @@ unfolding listView
 headed f (header-answer.Refused r) p el = refuses r (λ o. refl)
 headed f (header-answer.At h) p el =
     let v = viewBy f h p el in
-    let l = listed (v .code) (f .opcodes) (f .types) (v .frame .«reg_file_start») in
+    let l = listed (v .code) (v .opcodes) (f .types) (v .frame .«reg_file_start») in
     let t = headerText h ++ linesText v (l .instrs) in
     checked (listingCheck (v .opcodes) (v .pooled) l) (putText t) (puts t (λ o. refl))
 
@@ -85,23 +86,23 @@ unfolding limited
 limited-call f = checked (limitCheck f) (listCall f 0) (listed-call f)
 
 -- An answer on the buffer o, the buffer that it left, and the text t: the listing is t, with the rest of o behind it; a refusal leaves o.
-abbrev Told : List ℕ → Listed → List ℕ → List ℕ → Type 0
-Told o (listed-as.Done n) o′ t = (length t ≤ length o) × (n ≡ length t) × (o′ ≡ t ++ drop (length t) o)
-Told o (listed-as.Refused r) o′ t = (o′ ≡ o) × (t ≡ refusalText r)
+abbrev Told : List ℕ → Written → List ℕ → List ℕ → Type 0
+Told o (written.Done n) o′ t = (length t ≤ length o) × (n ≡ length t) × (o′ ≡ t ++ drop (length t) o)
+Told o (written.Refused r) o′ t = (o′ ≡ o) × (t ≡ refusalText r)
 
 -- what a call x on o told is what a call y on another buffer tells
-abbrev Alike : List ℕ → Listed × List ℕ → Listed × List ℕ → Type 0
+abbrev Alike : List ℕ → Written × List ℕ → Written × List ℕ → Type 0
 Alike o x y = Told o (x .0) (x .1) (told (y .0) (y .1))
 
 text-alike : (t o : List ℕ) → Alike o (putText t o) (putText t (replicate (length o) 0))
 text-alike t o = rw length-replicate (go (decLe (length t) (length o)))
   where
     go : Dec (length t ≤ length o)
-        → Alike o (putText t o) (cond (leb (length t) (length o)) (listed-as.Done (length t), t ++ drop (length t) (replicate (length o) 0)) (listed-as.Refused (refusalAt 17 0), replicate (length o) 0))
+        → Alike o (putText t o) (cond (leb (length t) (length o)) (written.Done (length t), t ++ drop (length t) (replicate (length o) 0)) (written.Refused (refusalAt 17 0), replicate (length o) 0))
     go (yes l) = rw (le-leb _ _ l, take-append-seam) (l, refl, refl)
     go (no n) = rw (lt-leb (length t) (length o) (omega arith)) (refl, refl)
 
-alike : (g : List ℕ → Listed × List ℕ) → Call g → (o : List ℕ) → Alike o (g o) (g (replicate (length o) 0))
+alike : (g : List ℕ → Written × List ℕ) → Call g → (o : List ℕ) → Alike o (g o) (g (replicate (length o) 0))
 alike g (refuses r e) o = rw (e o, e (replicate (length o) 0)) (refl, refl)
 alike g (puts t e) o = rw (e o, e (replicate (length o) 0)) (text-alike t o)
 
@@ -131,19 +132,19 @@ printed t o o′ r s h p = record {
     size = omega (arith, p .end)
 
 -- for a listing, and for a refusal whose line was put into the buffer that the call left
-module _ (f : Files) (o : List ℕ) (whole : length o ≡ 65536) {x : Listed} {o₁ : List ℕ} (e : x ≡ limited f o .0) (e₁ : o₁ ≡ limited f o .1) where
+module _ (f : Files) (o : List ℕ) (whole : length o ≡ 65536) {x : Written} {o₁ : List ℕ} (e : x ≡ limited f o .0) (e₁ : o₁ ≡ limited f o .1) where
   tells : Told o x o₁ (shown f 65536)
   tells = rw (← e, ← e₁, whole) at (limited-tells f o)
 
-  pub printed-listing : (n : ℕ) → x ≡ listed-as.Done n → Printed (shown f 65536) o o₁ n
+  pub printed-listing : (n : ℕ) → x ≡ written.Done n → Printed (shown f 65536) o o₁ n
   printed-listing n h =
-      let a : Told o (listed-as.Done n) o₁ (shown f 65536) = rw h at tells in
+      let a : Told o (written.Done n) o₁ (shown f 65536) = rw h at tells in
       printed (shown f 65536) o o₁ n whole (omega (arith, a .0, whole))
       (record { text = a .2 ∙ sym (fits {o = o} {t = shown f 65536} (a .0) (record { text = refl; end = refl })); end = omega (arith, a .0, a .1, whole) })
 
-  pub printed-refusal : (r : Refusal) {o′ : List ℕ} {n : ℕ} → x ≡ listed-as.Refused r → Put o₁ 0 (refusalText r) o′ n → Printed (shown f 65536) o o′ n
+  pub printed-refusal : (r : Refusal) {o′ : List ℕ} {n : ℕ} → x ≡ written.Refused r → Put o₁ 0 (refusalText r) o′ n → Printed (shown f 65536) o o′ n
   printed-refusal r {o′} {n} h p =
-      let a : Told o (listed-as.Refused r) o₁ (shown f 65536) = rw h at tells in
+      let a : Told o (written.Refused r) o₁ (shown f 65536) = rw h at tells in
       printed (shown f 65536) o o′ n whole (rw (a .1) (omega (arith, line r))) (rw (a .0, ← a .1) at p)
 
 -- ---- the walk program

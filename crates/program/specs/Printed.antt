@@ -11,8 +11,8 @@ use Rattle.refusal.specs.declared.Check.{Check}
 use Rattle.refusal.specs.Check.{firstRefusal, refuseUnless, guardedOn}
 use Rattle.text.specs.Texts.{decimal}
 use Rattle.tables.specs.Check.{checkTable}
-use Rattle.disasm.specs.declared.Listed.{Listed}
-use Rattle.disasm.specs.declared.Listed.the-variants as listed-as
+use Rattle.text.specs.declared.Written.{Written}
+use Rattle.text.specs.declared.Written.the-variants as written
 use Rattle.function.specs.Files.{Files}
 use Rattle.disasm.specs.Listing.{listCall}
 use Rattle.walk.specs.declared.Walked.{Walked}
@@ -35,13 +35,13 @@ limitCheck f =
     (refuseUnless (withinLimit (length (f .objects)) (length (f .slots)) (length (f .payload))) 6)
 
 -- The listing of object 0 into the buffer o.
-unfoldable pub limited : Files → List ℕ → Listed × List ℕ
-limited f o = guardedOn (limitCheck f) listed-as.Refused o (listCall f 0 o)
+unfoldable pub limited : Files → List ℕ → Written × List ℕ
+limited f o = guardedOn (limitCheck f) written.Refused o (listCall f 0 o)
 
 -- The text of an answer and of the buffer that it left: the listing, or the refusal's line.
-abbrev pub told : Listed → List ℕ → List ℕ
-told (listed-as.Done n) o = take n o
-told (listed-as.Refused r) o = refusalText r
+abbrev pub told : Written → List ℕ → List ℕ
+told (written.Done n) o = take n o
+told (written.Refused r) o = refusalText r
 
 -- "The listing program lends 65,536 bytes for its text; a longer listing is number 17": the text that it prints by way of n bytes. These are
 -- n zeros here; that what they held before makes no difference is the contract of `list_text`.

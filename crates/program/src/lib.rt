@@ -1,13 +1,13 @@
 // What the programs print: a refusal's line, the listing of object 0, and the answer of the walk check on it.
 
-use disasm::Listed;
 use refusal::Check;
 use refusal::Refusal;
+use text::Written;
 use walk::Walked;
 ghost use mathlib.Core.Path.{_≡_};
 ghost use lib.ListN.{length};
 ghost use Rattle.text.specs.Put.{Put};
-ghost use Rattle.disasm.specs.Listing.{ListedAs};
+ghost use Rattle.text.specs.mirror.Written.{WrittenBy};
 ghost use Rattle.walk.specs.declared.Walked.the-variants as walked;
 ghost use Rattle.program.specs.Printed.{refusalText, withinLimit, limited, shown, Printed, walkText, walkAnswer, walkShown};
 
@@ -48,8 +48,8 @@ pub fn list_text(
         payload,
     );
     match listed {
-        Listed::Done(n) => n,
-        Listed::Refused(r) => put_refusal(out, 0, r),
+        Written::Done(n) => n,
+        Written::Refused(r) => put_refusal(out, 0, r),
     }
 }
 
@@ -64,8 +64,8 @@ fn list_limited(
     objects: &[u8],
     slots: &[u8],
     payload: &[u8],
-) -> Listed
-    ensures { λ r. ⌜ ListedAs (limited (record { opcodes = now (opcodes .entry); types = now (types .entry); runtime = now (runtime .entry); intrinsic = now (intrinsic .entry); layout = now (layout .entry); objects = now (objects .entry); slots = now (slots .entry); payload = now (payload .entry) }) (now (out .entry))) r (now (out .exit)) ⌝ }
+) -> Written
+    ensures { λ r. ⌜ WrittenBy (limited (record { opcodes = now (opcodes .entry); types = now (types .entry); runtime = now (runtime .entry); intrinsic = now (intrinsic .entry); layout = now (layout .entry); objects = now (objects .entry); slots = now (slots .entry); payload = now (payload .entry) }) (now (out .entry))) r (now (out .exit)) ⌝ }
 {
     if within_limit(objects.len(), slots.len(), payload.len()) {
         return disasm::list(
@@ -82,11 +82,11 @@ fn list_limited(
         );
     }
     match tables::check_table(opcodes, types, runtime, intrinsic, layout) {
-        Check::Ok => Listed::Refused(Refusal {
+        Check::Ok => Written::Refused(Refusal {
             number: refusal::STORE_SIZE,
             place: 0,
         }),
-        Check::Refused(r) => Listed::Refused(r),
+        Check::Refused(r) => Written::Refused(r),
     }
 }
 

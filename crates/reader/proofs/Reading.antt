@@ -1,6 +1,6 @@
 -- Where a reader finds a slot and moves, and where it is at the end and stays. Assumes nothing.
 use Prim.Native.Nat.{ℕ, _+_, _<_, _≤_}
-use mathlib.Core.Path.{_≡_, refl, sym, ap, _∙_}
+use mathlib.Core.Path.{_≡_, refl, sym, _∙_}
 use mathlib.Core.Bool.{Bool, true, false, cond}
 use mathlib.Core.List.{List}
 use native.Mathlib.Omega.{arith}
@@ -8,7 +8,9 @@ use borrow.Author.Tests.{ltb-true, ltb-false, lt-ltb, le-ltb}
 use lib.Dec.{ltb}
 use Rattle.store.specs.Records.{slotOf, slotCount}
 use Rattle.store.specs.declared.Slot.{Slot}
-use Rattle.reader.specs.Reading.{readAt, nextAt, stepAt}
+use Rattle.reader.specs.Reading.{readAt, nextAt}
+use Rattle.reader.specs.Numbers.{readNumbers}
+use Rattle.reader.proofs.Numbers.{read-numbers-one}
 use Rattle.reader.specs.declared.Stepped.{Stepped}
 use Rattle.reader.specs.declared.Read.the-variants.{Found, End}
 
@@ -37,13 +39,16 @@ module _ (s : List ℕ) (at : ℕ) where
   unfolding nextAt
   stays h = rw (le-ltb _ _ h)
 
-  module _ (r : Stepped) (e : r ≡ stepAt s at) where
+  module _ (r : Stepped) (e : (readNumbers at (r .read) ≡ readNumbers at (readAt s at)) × (r .at ≡ nextAt s at)) where
+    reads : r .read ≡ readAt s at
+    reads = read-numbers-one at (r .read) (readAt s at) (e .0)
+
     pub found-moves : {x : Slot} → r .read ≡ Found x → (at < slotCount s) × (r .at ≡ at + 1)
     found-moves h =
-        let b = found-below (sym (ap (λ (z : Stepped). z .read) e) ∙ h) in
-        (b, ap (λ (z : Stepped). z .at) e ∙ moves b)
+        let b = found-below (sym reads ∙ h) in
+        (b, e .1 ∙ moves b)
 
     pub end-stays : r .read ≡ End → (slotCount s ≤ at) × (r .at ≡ at)
     end-stays h =
-        let b = end-from (sym (ap (λ (z : Stepped). z .read) e) ∙ h) in
-        (b, ap (λ (z : Stepped). z .at) e ∙ stays b)
+        let b = end-from (sym reads ∙ h) in
+        (b, e .1 ∙ stays b)

@@ -6,7 +6,6 @@ use lib.Dec.{ltb}
 use Rattle.store.specs.Records.{slotOf, slotCount}
 use Rattle.reader.specs.declared.Read.{Read}
 use Rattle.reader.specs.declared.Read.the-variants.{Found, End}
-use Rattle.reader.specs.declared.Stepped.{Stepped}
 
 -- the slot at a record, where a whole record stands there
 unfoldable pub readAt : List ℕ → ℕ → Read
@@ -15,7 +14,3 @@ readAt s at = cond (ltb at (slotCount s)) (Found (slotOf s at)) End
 -- the cursor behind the slot found; at the end it stays
 unfoldable pub nextAt : List ℕ → ℕ → ℕ
 nextAt s at = cond (ltb at (slotCount s)) (at + 1) at
-
--- one step of a reader
-abbrev pub stepAt : List ℕ → ℕ → Stepped
-stepAt s at = record { read = readAt s at; at = nextAt s at }

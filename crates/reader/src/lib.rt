@@ -3,7 +3,8 @@
 use store::Slot;
 ghost use mathlib.Core.Path.{_≡_};
 ghost use Rattle.store.specs.Records.{slotCount};
-ghost use Rattle.reader.specs.Reading.{readAt, nextAt, stepAt};
+ghost use Rattle.reader.specs.Reading.{readAt, nextAt};
+ghost use Rattle.reader.specs.Numbers.{readNumbers};
 
 // The lent slot records, and the number of the record that is read next.
 pub struct SlotReader<'a> {
@@ -31,7 +32,10 @@ pub fn new<'a>(slots: &'a [u8], at: usize) -> SlotReader<'a>
 
 // The slot at the cursor, which moves to the next record; or the end, where the cursor stays.
 pub fn next<'s, 'a>(r: &'s mut SlotReader<'a>) -> Read
-    ensures { λ s. ⌜ (s ≡ readAt (now (now (r .entry) .slots)) (now (r .entry) .at)) × ((now (r .exit) .slots ≡ now (r .entry) .slots) × (now (r .exit) .at ≡ nextAt (now (now (r .entry) .slots)) (now (r .entry) .at))) ⌝ }
+    ensures { λ s. ⌜ (readNumbers (now (r .entry) .at) s
+        ≡ readNumbers (now (r .entry) .at) (readAt (now (now (r .entry) .slots)) (now (r .entry) .at)))
+        × (now (r .exit) .slots ≡ now (r .entry) .slots)
+        × (now (r .exit) .at ≡ nextAt (now (now (r .entry) .slots)) (now (r .entry) .at)) ⌝ }
 {
     let slots = r.slots;
     let at = r.at;
@@ -41,7 +45,7 @@ pub fn next<'s, 'a>(r: &'s mut SlotReader<'a>) -> Read
 
 // What a reader at a record finds, and where its cursor is then.
 pub fn read_step(slots: &[u8], at: usize) -> Stepped
-    ensures { λ s. ⌜ s ≡ stepAt (now (slots .entry)) at ⌝ }
+    ensures { λ s. ⌜ (readNumbers at (s .read) ≡ readNumbers at (readAt (now (slots .entry)) at)) × (s .at ≡ nextAt (now (slots .entry)) at) ⌝ }
 {
     let mut r = new(slots, at);
     let read = next(&mut r);

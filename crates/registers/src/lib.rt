@@ -2,6 +2,7 @@
 ghost use mathlib.Core.Path.{_≡_};
 ghost use Prim.Native.Nat.{min};
 ghost use Rattle.registers.specs.Registers.{withRegister, withOperand, withInstr, maxRegister};
+ghost use Rattle.registers.specs.Numbers.{largestNumbers};
 use decoder::Instr;
 use operand::Operand;
 
@@ -13,7 +14,7 @@ pub enum Largest {
 
 // The largest register of a run of instructions; one below 0 does not count.
 pub fn max_register(instrs: &[Instr]) -> Largest
-    ensures { λ r. ⌜ r ≡ maxRegister (now (instrs .entry)) ⌝ }
+    ensures { λ r. ⌜ largestNumbers r ≡ largestNumbers (maxRegister (now (instrs .entry))) ⌝ }
 {
     let mut best = Largest::Nothing;
     let mut i: usize = 0;

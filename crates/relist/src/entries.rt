@@ -128,7 +128,7 @@ fn are_shown(
     let mut seen = none_seen(said);
     let mut k: u16 = 0;
     while k < entries.count {
-        let entry = targets::entry_at(slots, payload, ts, pool, here, entries, k);
+        let entry = targets::jump_entry_unchecked(slots, payload, ts, pool, here, entries, k);
         seen = seen_after(said, seen, entry);
         k += 1;
     }

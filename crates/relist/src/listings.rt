@@ -1,5 +1,5 @@
 // Whole listings of object 0.
-use disasm::Listed;
+use text::Written;
 use vectors::items::Files;
 use vectors::items::Part;
 use vectors::items::file;
@@ -74,7 +74,7 @@ fn long_listing_in(bytes: &[u8], files: Files, call: &[u8], out: &mut [u8]) -> b
         0,
     );
     match listed {
-        Listed::Done(n) => said::is_text(call, out, n),
-        Listed::Refused(refusal) => said::is_refused(call, refusal),
+        Written::Done(n) => said::is_text(call, out, n),
+        Written::Refused(refusal) => said::is_refused(call, refusal),
     }
 }

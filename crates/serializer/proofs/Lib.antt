@@ -7,3 +7,4 @@ pub mod Searched
 pub mod Checked
 pub mod Inside
 pub mod Passed
+pub mod Numbers

@@ -6,5 +6,5 @@ pub mod Element
 pub mod Length
 pub mod Offset
 pub mod Calls
-pub mod Shown
+pub mod Numbers
 pub mod mirror

@@ -5,7 +5,6 @@ use refusal::Check;
 use refusal::Refusal;
 use store::SlotValue;
 ghost use mathlib.Core.Path.{_≡_};
-ghost use mathlib.Core.Bool.{_||_};
 ghost use Prim.Native.Nat.{_+_, _*_, _/_, _<_, min, max};
 ghost use lib.ListN.{length, take, drop};
 ghost use Rattle.serializer.specs.Smi.{smiHigh, smiTagged, smiBytes, smiAt};
@@ -16,6 +15,7 @@ ghost use Rattle.serializer.specs.Element.{elemBytes, elemRef, elemRaw, 
 ghost use Rattle.serializer.specs.Length.{roomFor, agrees, plainField, smiField, plainOr, chosen};
 ghost use Rattle.serializer.specs.Calls.{checkAt, slotAnswer, slotCall, rawAnswer, rawCall, rawPart, lenCall, elemCall, offCall};
 ghost use Rattle.serializer.specs.Offset.{isRaw, rawTail, behind, rtOff};
+ghost use Rattle.serializer.specs.Numbers.{smiNumbers, slotNumbers, rawNumbers, lenNumbers, elemNumbers, offNumbers};
 
 // Answers.
 
@@ -97,12 +97,13 @@ pub fn slot_at(
     object: usize,
     index: u64,
 ) -> SlotAnswer
-    ensures { λ r. ⌜ r ≡ slotCall (now (objects .entry)) (now (slots .entry)) (now (payload .entry)) object index ⌝ }
+    ensures { λ r. ⌜ slotNumbers r
+        ≡ slotNumbers (slotCall (now (objects .entry)) (now (slots .entry)) (now (payload .entry)) object index) ⌝ }
 {
     match check_at(objects, slots, payload, object) {
         Check::Ok => {
             let o = store::object_of(objects, object);
-            slot_answer(find_slot(slots, o.first, o.count, index))
+            slot_answer(slot_at_unchecked(slots, o.first, o.count, index))
         }
         Check::Refused(refusal) => SlotAnswer::Refused(refusal),
     }
@@ -120,7 +121,11 @@ pub fn raw_at<'a>(
     off: u64,
     len: u64,
 ) -> RawPart<'a>
-    ensures { λ r. ⌜ (r .answer ≡ rawCall (now (objects .entry)) (now (slots .entry)) (now (payload .entry)) ts object off len) × (now (r .part) ≡ rawPart (now (payload .entry)) (rawCall (now (objects .entry)) (now (slots .entry)) (now (payload .entry)) ts object off len) len) ⌝ }
+    ensures { λ r. ⌜ (rawNumbers (r .answer)
+        ≡ rawNumbers (rawCall (now (objects .entry)) (now (slots .entry)) (now (payload .entry)) ts object off len))
+        × (now (r .part)
+        ≡ rawPart (now (payload .entry))
+        (rawCall (now (objects .entry)) (now (slots .entry)) (now (payload .entry)) ts object off len) len) ⌝ }
 {
     let answer = raw_found(objects, slots, payload, ts, object, off, len);
     let part = raw_lent(payload, answer, len);
@@ -137,7 +142,8 @@ pub fn raw_run_at(
     off: u64,
     len: u64,
 ) -> RawAnswer
-    ensures { λ r. ⌜ r ≡ rawCall (now (objects .entry)) (now (slots .entry)) (now (payload .entry)) ts object off len ⌝ }
+    ensures { λ r. ⌜ rawNumbers r
+        ≡ rawNumbers (rawCall (now (objects .entry)) (now (slots .entry)) (now (payload .entry)) ts object off len) ⌝ }
 {
     raw_at(objects, slots, payload, ts, object, off, len).answer
 }
@@ -152,7 +158,9 @@ pub fn raw_part_at<'a>(
     off: u64,
     len: u64,
 ) -> &'a [u8]
-    ensures { λ r. ⌜ now r ≡ rawPart (now (payload .entry)) (rawCall (now (objects .entry)) (now (slots .entry)) (now (payload .entry)) ts object off len) len ⌝ }
+    ensures { λ r. ⌜ now r
+        ≡ rawPart (now (payload .entry))
+        (rawCall (now (objects .entry)) (now (slots .entry)) (now (payload .entry)) ts object off len) len ⌝ }
 {
     raw_at(objects, slots, payload, ts, object, off, len).part
 }
@@ -171,7 +179,7 @@ fn raw_found(
     match check_at(objects, slots, payload, object) {
         Check::Ok => {
             let o = store::object_of(objects, object);
-            raw_answer(raw_place(slots, o.first, o.count, ts, off, len))
+            raw_answer(raw_at_unchecked(slots, o.first, o.count, ts, off, len))
         }
         Check::Refused(refusal) => RawAnswer::Refused(refusal),
     }
@@ -187,12 +195,13 @@ fn raw_lent<'a>(payload: &'a [u8], answer: RawAnswer, len: u64) -> &'a [u8]
 }
 
 pub fn array_len(objects: &[u8], slots: &[u8], payload: &[u8], ts: u8, object: usize) -> LenAnswer
-    ensures { λ r. ⌜ r ≡ lenCall (now (objects .entry)) (now (slots .entry)) (now (payload .entry)) ts object ⌝ }
+    ensures { λ r. ⌜ lenNumbers r
+        ≡ lenNumbers (lenCall (now (objects .entry)) (now (slots .entry)) (now (payload .entry)) ts object) ⌝ }
 {
     match check_at(objects, slots, payload, object) {
         Check::Ok => {
             let o = store::object_of(objects, object);
-            LenAnswer::Len(array_len_of(slots, payload, o, ts))
+            LenAnswer::Len(array_len_unchecked(slots, payload, o, ts))
         }
         Check::Refused(refusal) => LenAnswer::Refused(refusal),
     }
@@ -206,12 +215,13 @@ pub fn array_elem(
     object: usize,
     element: u64,
 ) -> ElemAnswer
-    ensures { λ r. ⌜ r ≡ elemCall (now (objects .entry)) (now (slots .entry)) (now (payload .entry)) ts object element ⌝ }
+    ensures { λ r. ⌜ elemNumbers r
+        ≡ elemNumbers (elemCall (now (objects .entry)) (now (slots .entry)) (now (payload .entry)) ts object element) ⌝ }
 {
     match check_at(objects, slots, payload, object) {
         Check::Ok => {
             let o = store::object_of(objects, object);
-            ElemAnswer::Elem(elem_at(slots, payload, o.first, o.count, ts, element))
+            ElemAnswer::Elem(array_elem_unchecked(slots, payload, o.first, o.count, ts, element))
         }
         Check::Refused(refusal) => ElemAnswer::Refused(refusal),
     }
@@ -227,12 +237,13 @@ pub fn bca_rt_off(
     object: usize,
     off: u32,
 ) -> OffAnswer
-    ensures { λ r. ⌜ r ≡ offCall (now (objects .entry)) (now (slots .entry)) (now (payload .entry)) ts unit object off ⌝ }
+    ensures { λ r. ⌜ offNumbers r
+        ≡ offNumbers (offCall (now (objects .entry)) (now (slots .entry)) (now (payload .entry)) ts unit object off) ⌝ }
 {
     match check_at(objects, slots, payload, object) {
         Check::Ok => {
             let o = store::object_of(objects, object);
-            OffAnswer::Off(rt_off(slots, o.first, o.count, ts, unit, off))
+            OffAnswer::Off(bca_rt_off_unchecked(slots, o.first, o.count, ts, unit, off))
         }
         Check::Refused(refusal) => OffAnswer::Refused(refusal),
     }
@@ -268,7 +279,7 @@ fn raw_answer(found: RawAt) -> RawAnswer
 // Small integers.
 
 pub fn decode_smi_bytes(d: &[u8]) -> Smi
-    ensures { λ r. ⌜ r ≡ smiBytes (now (d .entry)) ⌝ }
+    ensures { λ r. ⌜ smiNumbers r ≡ smiNumbers (smiBytes (now (d .entry))) ⌝ }
 {
     match d.len() {
         8 => smi_high(words::u32_at(d, 0), words::u32_at(d, 4)),
@@ -322,7 +333,7 @@ fn smi_tagged(raw: u32) -> Smi
 // Slots by their index.
 
 // slot_at of an object's slots.
-pub fn find_slot(slots: &[u8], first: u32, count: u32, index: u64) -> SlotAt
+pub fn slot_at_unchecked(slots: &[u8], first: u32, count: u32, index: u64) -> SlotAt
     ensures { λ r. ⌜ r ≡ slotSearched (now (slots .entry)) first count index ⌝ }
 {
     let i = partition_point(slots, first, count, index);
@@ -366,7 +377,7 @@ fn stops(index: u32, want: u64) -> bool
 // Fields in raw runs.
 
 // raw_at of an object's slots: where in the payload the len bytes from byte off of the object on are.
-pub fn raw_place(slots: &[u8], first: u32, count: u32, ts: u8, off: u64, len: u64) -> RawAt
+pub fn raw_at_unchecked(slots: &[u8], first: u32, count: u32, ts: u8, off: u64, len: u64) -> RawAt
     ensures { λ r. ⌜ r ≡ rawSearched (now (slots .entry)) first count ts off len ⌝ }
 {
     if ts == 0 {
@@ -437,7 +448,14 @@ enum ElemLook {
 }
 
 // array_elem of an object's slots.
-pub fn elem_at(slots: &[u8], payload: &[u8], first: u32, count: u32, ts: u8, element: u64) -> Elem
+pub fn array_elem_unchecked(
+    slots: &[u8],
+    payload: &[u8],
+    first: u32,
+    count: u32,
+    ts: u8,
+    element: u64,
+) -> Elem
     ensures { λ r. ⌜ r ≡ elemSearched (now (slots .entry)) (now (payload .entry)) first count ts element ⌝ }
 {
     if ts == 0 {
@@ -567,16 +585,19 @@ fn elem_bytes(payload: &[u8], at: usize, len: usize) -> Elem
 // Lengths.
 
 // array_len of an object and its slots.
-pub fn array_len_of(slots: &[u8], payload: &[u8], object: store::Object, ts: u8) -> u64
+pub fn array_len_unchecked(slots: &[u8], payload: &[u8], object: store::Object, ts: u8) -> u64
     ensures { λ r. ⌜ r ≡ lenSearched (now (slots .entry)) (now (payload .entry)) object ts ⌝ }
 {
     let first = object.first;
     let count = object.count;
-    let plain = plain_field(payload, raw_place(slots, first, count, ts, ts as u64, 4));
+    let plain = plain_field(
+        payload,
+        raw_at_unchecked(slots, first, count, ts, ts as u64, 4),
+    );
     let tagged = smi_field(
         payload,
         ts,
-        raw_place(slots, first, count, ts, ts as u64, ts as u64),
+        raw_at_unchecked(slots, first, count, ts, ts as u64, ts as u64),
     );
     let n = chosen(object, ts, plain, tagged);
     let most = most_elements(payload, ts);
@@ -671,7 +692,7 @@ enum Tail {
 }
 
 // bca_rt_off of an object's slots: where byte off of the capture is at run time.
-pub fn rt_off(slots: &[u8], first: u32, count: u32, ts: u8, unit: u8, off: u32) -> u64
+pub fn bca_rt_off_unchecked(slots: &[u8], first: u32, count: u32, ts: u8, unit: u8, off: u32) -> u64
     ensures { λ r. ⌜ r ≡ rtOff (now (slots .entry)) first count ts unit off ⌝ }
 {
     if ts == unit {

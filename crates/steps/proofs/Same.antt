@@ -20,8 +20,7 @@ use Rattle.decoder.specs.declared.Outcome.{Outcome}
 use Rattle.decoder.specs.declared.Decoded.{Decoded}
 use Rattle.decoder.specs.Listed.{listOn, listFrom, decodes}
 use Rattle.decoder.proofs.Tiles.{Tiles, decode-says, list-tiles}
-use Rattle.tables.specs.Records.{prefixOp}
-use Rattle.flow.specs.Flow.{flowOf}
+use Rattle.flow.specs.Opcodes.{Opcodes, prefixWith}
 use Rattle.flow.specs.declared.Flow.{Flow}
 use Rattle.flow.specs.declared.Kind.{Kind}
 use Rattle.flow.specs.declared.Kind.the-variants.{On, Ends, Jumps, Branches, JumpsBack, Switch}
@@ -37,7 +36,7 @@ use Rattle.targets.specs.declared.Number.the-variants as number
 use Rattle.targets.specs.declared.Table.{Table}
 use Rattle.targets.specs.declared.Table.the-variants as table
 use Rattle.steps.specs.declared.Way.{Way}
-use Rattle.steps.specs.Steps.{Source, entrySteps, entriesSteps, tableSteps, stepsBy, instrSteps, stepsAt, listing, offset, walkGraph}
+use Rattle.steps.specs.Steps.{Source, entrySteps, entriesSteps, tableSteps, jumpsBy, onBy, instrSteps, stepsAt, listing, offset, walkGraph}
 use Rattle.steps.specs.mirror.Ways.{entryStep, entryWays, tableWays, waysBy, waySteps, wayOf, wayAt, searchGraph}
 
 -- ---- the steps of one instruction
@@ -91,7 +90,7 @@ module _ (el : ℕ → Elem) {x : Step} where
     unfolding waySteps wayOf instrSteps
     ways-there = go (flow .kind)
       where
-        go : (k : Kind) → Among x (waysBy k el (wayOf el pooled flow i)) → Among x (stepsBy k (jumpTarget el flow i) (tableSteps el (here i) (jumpTable pooled flow i)) (i .end))
+        go : (k : Kind) → Among x (waysBy k el (wayOf el pooled flow i)) → Among x (jumpsBy k (jumpTarget el flow i) (tableSteps el (here i) (jumpTable pooled flow i)) ++ onBy k (i .end))
         go On h = h
         go Ends h = h
         go Jumps h = h
@@ -103,7 +102,7 @@ module _ (el : ℕ → Elem) {x : Step} where
     unfolding waySteps wayOf instrSteps
     ways-back = go (flow .kind)
       where
-        go : (k : Kind) → Among x (stepsBy k (jumpTarget el flow i) (tableSteps el (here i) (jumpTable pooled flow i)) (i .end)) → Among x (waysBy k el (wayOf el pooled flow i))
+        go : (k : Kind) → Among x (jumpsBy k (jumpTarget el flow i) (tableSteps el (here i) (jumpTable pooled flow i)) ++ onBy k (i .end)) → Among x (waysBy k el (wayOf el pooled flow i))
         go On h = h
         go Ends h = h
         go Jumps h = h
@@ -112,8 +111,9 @@ module _ (el : ℕ → Elem) {x : Step} where
         go Switch h = table-back (here i) (i .end) (jumpTable pooled flow i) h
 
 -- an instruction starts where it was decoded
-pub own-offset : (code ops types : List ℕ) (rfs : ℤ) (at : ℕ) → decodes code ops types rfs at .outcome ≡ Outcome.Done → decodes code ops types rfs at .instr .offset ≡ at
-own-offset code ops types rfs at e = rw e at (decode-says code ops types rfs (prefixOp ops 1) (prefixOp ops 2) at)
+pub own-offset : (code : List ℕ) (ops : Opcodes) (types : List ℕ) (rfs : ℤ) (at : ℕ)
+    → decodes code ops types rfs at .outcome ≡ Outcome.Done → decodes code ops types rfs at .instr .offset ≡ at
+own-offset code ops types rfs at e = rw e at (decode-says code ops types rfs (prefixWith ops 1) (prefixWith ops 2) at)
 
 -- ---- the listed instructions are what is decoded at their offsets
 abbrev Own : (ℕ → Decoded) → List Instr → Type 0
@@ -135,7 +135,7 @@ module _ (s : Source) where
       go Outcome.Done e rest = (ap (λ (o : ℕ). dec o .instr) (own-offset (s .code) (s .opcodes) (s .types) (s .rfs) at e), rest)
 
   abbrev ownSteps : ℕ → List Step
-  ownSteps o = instrSteps (s .elem) (s .pooled) (flowOf (s .opcodes) (dec o .instr .opcode)) (dec o .instr)
+  ownSteps o = instrSteps (s .elem) (s .pooled) (s .opcodes .flow (dec o .instr .opcode)) (dec o .instr)
 
   steps-own : (is : List Instr) (o : ℕ) → Own dec is → elem o (map offset is) ≡ true → stepsAt s is o ≡ ownSteps o
   unfolding stepsAt
@@ -143,7 +143,7 @@ module _ (s : Source) where
   steps-own (i ∷ is) o w e = go (eqb (i .offset) o) refl (steps-own is o (w .1))
     where
       steps : Instr → List Step
-      steps j = instrSteps (s .elem) (s .pooled) (flowOf (s .opcodes) (j .opcode)) j
+      steps j = instrSteps (s .elem) (s .pooled) (s .opcodes .flow (j .opcode)) j
 
       go : (b : Bool) → eqb (i .offset) o ≡ b → (elem o (map offset is) ≡ true → stepsAt s is o ≡ ownSteps o) → cond b (steps i) (stepsAt s is o) ≡ ownSteps o
       go true h rest = ap steps (sym (w .0) ∙ ap (λ (p : ℕ). dec p .instr) (eqb-true (i .offset) o h))
@@ -156,11 +156,11 @@ module _ (s : Source) where
 
   pub search-less : Less (searchGraph s) (walkGraph s)
   unfolding walkGraph searchGraph isStart wayAt
-  search-less = less-steps refl (λ o x e i. subst (λ (l : List Step). Among x l) (sym (at-start o e)) (ways-there (s .elem) (s .pooled) (flowOf (s .opcodes) (dec o .instr .opcode)) (dec o .instr) i))
+  search-less = less-steps refl (λ o x e i. subst (λ (l : List Step). Among x l) (sym (at-start o e)) (ways-there (s .elem) (s .pooled) (s .opcodes .flow (dec o .instr .opcode)) (dec o .instr) i))
 
   pub less-search : Less (walkGraph s) (searchGraph s)
   unfolding walkGraph searchGraph isStart wayAt
-  less-search = less-steps refl (λ o x e i. ways-back (s .elem) (s .pooled) (flowOf (s .opcodes) (dec o .instr .opcode)) (dec o .instr) (subst (λ (l : List Step). Among x l) (at-start o e) i))
+  less-search = less-steps refl (λ o x e i. ways-back (s .elem) (s .pooled) (s .opcodes .flow (dec o .instr .opcode)) (dec o .instr) (subst (λ (l : List Step). Among x l) (at-start o e) i))
 
 -- ---- the graphs are good and lawful
 rises : (at e : ℕ) (is : List Instr) → Tiles at is e → Rising at (map offset is)
@@ -182,7 +182,7 @@ inside at e o (i ∷ is) t h =
 
 module _ (s : Source) (ended : listing s .outcome ≡ Outcome.End) where
   tiles : Tiles 0 (listing s .instrs) (length (s .code))
-  tiles = list-tiles (s .code) (s .opcodes) (s .types) (s .rfs) (prefixOp (s .opcodes) 1) (prefixOp (s .opcodes) 2) (suc (length (s .code))) 0 (omega arith) (omega arith) ended
+  tiles = list-tiles (s .code) (s .opcodes) (s .types) (s .rfs) (prefixWith (s .opcodes) 1) (prefixWith (s .opcodes) 2) (suc (length (s .code))) 0 (omega arith) (omega arith) ended
 
   module _ (some : 0 < length (s .code)) where
     zero-first : (is : List Instr) → Tiles 0 is (length (s .code)) → elem 0 (map offset is) ≡ true

@@ -8,7 +8,7 @@ use Rattle.graph.specs.Graph.{Graph, Step}
 use Rattle.graph.specs.Graph.Step.{To, NoTarget}
 use Rattle.decoder.specs.declared.Instr.{Instr}
 use Rattle.decoder.specs.Listed.{Listing, listed}
-use Rattle.flow.specs.Flow.{flowOf}
+use Rattle.flow.specs.Opcodes.{Opcodes}
 use Rattle.flow.specs.declared.Flow.{Flow}
 use Rattle.flow.specs.declared.Kind.{Kind}
 use Rattle.flow.specs.declared.Kind.the-variants.{On, Ends, Jumps, Branches, JumpsBack, Switch}
@@ -25,7 +25,7 @@ use Rattle.targets.specs.declared.Entry.the-variants as entry
 -- what walks come from: "the lent code, records and payload, never .. the marks"
 pub record Source : Type 0 where
   pub code : List ℕ
-  pub opcodes : List ℕ
+  pub opcodes : Opcodes
   pub types : List ℕ
   pub rfs : ℤ
   pub pooled : Bool
@@ -53,21 +53,37 @@ tableSteps el at table.Refused = []
 
 -- "Return, SuspendGenerator, Throw, ReThrow, Abort end it. Jump, JumpConstant, JumpLoop, JumpLoopConstant go to the target. Other names in
 -- `jump_target`'s list go to the target or e. A switch goes to any entry shown or e. All others go to e."
-abbrev pub stepsBy : Kind → Target → List Step → ℕ → List Step
-stepsBy Ends t entries e = []
-stepsBy Jumps t entries e = toTarget t ∷ []
-stepsBy JumpsBack t entries e = toTarget t ∷ []
-stepsBy Branches t entries e = toTarget t ∷ To e ∷ []
-stepsBy Switch t entries e = entries ++ To e ∷ []
-stepsBy On t entries e = To e ∷ []
+-- The jumps: to the target, or to the entries
+abbrev pub jumpsBy : Kind → Target → List Step → List Step
+jumpsBy Ends t entries = []
+jumpsBy Jumps t entries = toTarget t ∷ []
+jumpsBy JumpsBack t entries = toTarget t ∷ []
+jumpsBy Branches t entries = toTarget t ∷ []
+jumpsBy Switch t entries = entries
+jumpsBy On t entries = []
+
+-- the step to e, where there is one
+abbrev pub onBy : Kind → ℕ → List Step
+onBy Ends e = []
+onBy Jumps e = []
+onBy JumpsBack e = []
+onBy Branches e = To e ∷ []
+onBy Switch e = To e ∷ []
+onBy On e = To e ∷ []
+
+abbrev pub jumpSteps : (ℕ → Elem) → Bool → Flow → Instr → List Step
+jumpSteps el pooled flow i = jumpsBy (flow .kind) (jumpTarget el flow i) (tableSteps el (here i) (jumpTable pooled flow i))
+
+abbrev pub onSteps : Flow → Instr → List Step
+onSteps flow i = onBy (flow .kind) (i .end)
 
 unfoldable pub instrSteps : (ℕ → Elem) → Bool → Flow → Instr → List Step
-instrSteps el pooled flow i = stepsBy (flow .kind) (jumpTarget el flow i) (tableSteps el (here i) (jumpTable pooled flow i)) (i .end)
+instrSteps el pooled flow i = jumpSteps el pooled flow i ++ onSteps flow i
 
 -- the steps from the listed instruction at o
 unfoldable pub stepsAt : Source → List Instr → ℕ → List Step
 stepsAt s [] o = []
-stepsAt s (i ∷ is) o = cond (eqb (i .offset) o) (instrSteps (s .elem) (s .pooled) (flowOf (s .opcodes) (i .opcode)) i) (stepsAt s is o)
+stepsAt s (i ∷ is) o = cond (eqb (i .offset) o) (instrSteps (s .elem) (s .pooled) (s .opcodes .flow (i .opcode)) i) (stepsAt s is o)
 
 -- "Listed instructions are decoded from byte 0 of non-empty code, each where the last ended, to its end."
 abbrev pub listing : Source → Listing

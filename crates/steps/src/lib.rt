@@ -38,8 +38,8 @@ pub fn way_of(slots: &[u8], payload: &[u8], ts: u8, pool: Pool, flow: Flow, inst
     ensures { λ r. ⌜ r ≡ wayOf (poolSearched (now (slots .entry)) (now (payload .entry)) ts pool) (found pool) flow instr ⌝ }
 {
     let kind = flow.kind;
-    let target = targets::jump_target(slots, payload, ts, pool, flow, instr);
-    let table = targets::jump_table(pool, flow, instr);
+    let target = targets::jump_target_unchecked(slots, payload, ts, pool, flow, instr);
+    let table = targets::jump_table_unchecked(pool, flow, instr);
     let here = targets::here(instr);
     Way {
         kind,
@@ -143,7 +143,7 @@ fn entry_step(
 ) -> Next
     ensures { λ r. ⌜ stepAs r ≡ some (entryStep (entryAt (poolSearched (now (slots .entry)) (now (payload .entry)) ts pool) here entries k) e) ⌝ }
 {
-    match targets::entry_at(slots, payload, ts, pool, here, entries, k) {
+    match targets::jump_entry_unchecked(slots, payload, ts, pool, here, entries, k) {
         Entry::Shown { case: _, target } => Next::To(target),
         Entry::Skipped => Next::To(e as u64),
     }

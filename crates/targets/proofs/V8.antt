@@ -19,6 +19,7 @@ use Rattle.operand.specs.declared.Operand.the-variants.{Nothing, Imm, Idx}
 use Rattle.decoder.specs.declared.Instr.{Instr}
 use Rattle.decoder.specs.declared.Decoded.{Decoded}
 use Rattle.decoder.specs.Decode.{instrOf, recordsOf}
+use Rattle.flow.specs.Opcodes.{Opcodes}
 use Rattle.decoder.specs.Listed.{decodes}
 use Rattle.decoder.specs.V8.{OperandType, Bytecodes, typeInfo, isUnsigned, isPrefixScaling, toInt, size, prefixSize, operandScale, currentBytecode, currentTypes, nextOffset, getOperand}
 use Rattle.decoder.specs.V8.OperandType.{kIdx, kUImm, kImm, kReg}
@@ -171,7 +172,8 @@ size-one [] scale = omega arith
 size-one (t ∷ ts) scale = omega (arith, size-one ts scale)
 
 -- V8's instruction at an offset of a code, and V8's pool
-module _ (b : Bytecodes) (code ops types : List ℕ) (rfs : ℤ) (offset : ℕ) (bytes : Bytes code) (fits : nextOffset b code offset ≤ length code)
+module _ (b : Bytecodes) (code : List ℕ) (ops : Opcodes) (types : List ℕ) (rfs : ℤ) (offset : ℕ) (bytes : Bytes code)
+    (fits : nextOffset b code offset ≤ length code)
     (form : V8Form b ops types (getD code offset 0) (currentBytecode b code offset)) (held : length code ≤ 2 ^ 31)
     (el : ℕ → Elem) (pool : ConstantPool) (same : SamePool el pool) where
   abbrev instr : Instr

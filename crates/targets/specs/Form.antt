@@ -9,7 +9,7 @@ use lib.IntN.{ℤ, pos, negsuc, natAbs}
 use Rattle.laws.specs.Ascii.{ascii}
 use Rattle.decoder.specs.V8.{OperandType}
 use Rattle.decoder.specs.V8.OperandType.{kIdx, kUImm, kImm, kReg}
-use Rattle.flow.specs.Flow.{plain, flowOf}
+use Rattle.flow.specs.Flow.{plain, flowNumber, flowBy}
 use Rattle.flow.specs.declared.Kind.the-variants as kind
 use Rattle.flow.specs.declared.Flow.{Flow}
 use Rattle.serializer.specs.declared.Elem.{Elem}
@@ -36,9 +36,9 @@ abbrev pub switchFlow : Switch → Flow
 switchFlow switchOnSmiNoFeedback = record { kind = kind.Switch; pool = false; first = 0; base = true }
 switchFlow switchOnGeneratorState = record { kind = kind.Switch; pool = false; first = 1; base = false }
 
--- our flow of an opcode of a name
+-- our flow of a name, which stands in front of a record
 abbrev pub flowNamed : String → Flow
-flowNamed name = flowOf (ascii name) 0
+flowNamed name = flowBy (flowNumber (ascii name) 0)
 
 -- bytecodes.h: the first operands of jumps and switches
 abbrev pub jumpTypes : Jump → List OperandType

@@ -63,13 +63,13 @@ pub fn pool_elem(slots: &[u8], payload: &[u8], ts: u8, pool: Pool, n: u64) -> El
     ensures { λ r. ⌜ r ≡ poolSearched (now (slots .entry)) (now (payload .entry)) ts pool n ⌝ }
 {
     match pool {
-        Pool::At(p) => serializer::elem_at(slots, payload, p.first, p.count, ts, n),
+        Pool::At(p) => serializer::array_elem_unchecked(slots, payload, p.first, p.count, ts, n),
         Pool::Nothing => Elem::Nothing,
     }
 }
 
 // The target of a jump. Each step is taken apart or answers no target.
-pub fn jump_target(
+pub fn jump_target_unchecked(
     slots: &[u8],
     payload: &[u8],
     ts: u8,
@@ -96,14 +96,21 @@ pub fn jump_target(
     let Pool::At(p) = pool else {
         return Target::Nothing;
     };
-    let Elem::Smi(d) = serializer::elem_at(slots, payload, p.first, p.count, ts, v as u64) else {
+    let Elem::Smi(d) = serializer::array_elem_unchecked(
+        slots,
+        payload,
+        p.first,
+        p.count,
+        ts,
+        v as u64,
+    ) else {
         return Target::Nothing;
     };
     target_by(kind, here(instr), d)
 }
 
 // The table of a switch.
-pub fn jump_table(pool: Pool, flow: Flow, instr: Instr) -> Table
+pub fn jump_table_unchecked(pool: Pool, flow: Flow, instr: Instr) -> Table
     ensures { λ r. ⌜ r ≡ jumpTable (found pool) flow instr ⌝ }
 {
     let kind = flow.kind;
@@ -122,7 +129,7 @@ pub fn jump_table(pool: Pool, flow: Flow, instr: Instr) -> Table
 }
 
 // Entry k of a switch whose distances count from place at.
-pub fn entry_at(
+pub fn jump_entry_unchecked(
     slots: &[u8],
     payload: &[u8],
     ts: u8,

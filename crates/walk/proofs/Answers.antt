@@ -14,18 +14,16 @@ use Rattle.decoder.specs.declared.Decoded.{Decoded}
 use Rattle.decoder.specs.Listed.{listOn, listFrom, decodes}
 use Rattle.function.specs.Code.{codeCheck, listingCheck}
 use Rattle.refusal.proofs.Laws.{never, or-left}
-use Rattle.graph.specs.Graph.{Finding, Claim, finding, markList}
+use Rattle.graph.specs.Graph.{Finding, Answer, finding, markList}
 use Rattle.graph.specs.Graph.Finding.{closed, leaves}
-use Rattle.graph.specs.mirror.Right.{Answer}
-use Rattle.graph.proofs.Findings.{finding-meets}
-use Rattle.graph.proofs.Answers.{found}
+use Rattle.graph.proofs.Answers.{found, computed}
 use Rattle.graph.proofs.Same.{answer-same}
 use Rattle.steps.specs.Steps.{Source, listing, walkGraph}
 use Rattle.steps.specs.mirror.Ways.{searchGraph}
 use Rattle.steps.proofs.Same.{search-less, less-search, walk-good}
 use Rattle.walk.specs.declared.Walked.{Walked}
-use Rattle.walk.specs.Walk.{answer, walkCheck, walkFound, walkSource, WalkedAs, Promise}
-use Rattle.walk.specs.mirror.Search.{Answered}
+use Rattle.walk.specs.Walk.{answer, walkCheck, walkFound, walkSource, Promise}
+use Rattle.walk.specs.mirror.Search.{WalkedBy, Answered}
 use Rattle.walk.specs.declared.Walked.the-variants as walked
 
 -- a listing that no fault ended came to the code's end
@@ -60,55 +58,60 @@ module _ (s : Source) where
 
   -- ---- the search
   module _ (end : listing s .outcome ≡ Outcome.End) where
-    right : {M : List ℕ} {f : Finding} → length M ≡ length (s .code) → Answer (searchGraph s) (length (s .code)) M f → WalkedAs (walkFound s []) (answer f) M
+    right : {M : List ℕ} {f : Finding} → length M ≡ length (s .code) → Answer (searchGraph s) (length (s .code)) M f → WalkedBy (walkFound s []) (answer f) M
     right len a =
         let x = found (walk-good s end) len (answer-same (search-less s) (less-search s) a) in
         (ap answer (x .0), x .1 ∙ sym (no-rest (length (s .code)) marks))
 
-    pub searched : (M : List ℕ) (r : Walked) → length M ≡ length (s .code) → Answered (searchGraph s) (length (s .code)) M r → WalkedAs (walkFound s []) r M
+    pub searched : (M : List ℕ) (r : Walked) → length M ≡ length (s .code) → Answered (searchGraph s) (length (s .code)) M r → WalkedBy (walkFound s []) r M
     searched M walked.Closed len a = right len a
     searched M (walked.Leaves n o) len a = right len a
     searched M (walked.Refused r) len a = absurd a
 
   -- ---- the call, by what the pass said
   module _ (M : List ℕ) where
-    pub source-refused : (r : Refusal) → Refused r ≡ whole → WalkedAs (walkSource s M) (walked.Refused r) M
+    pub source-refused : (r : Refusal) → Refused r ≡ whole → WalkedBy (walkSource s M) (walked.Refused r) M
     unfolding walkSource
     source-refused r e = rw (sym e) (refl, refl)
 
     module _ (ok : Ok ≡ whole) where
-      pub source-empty : length (s .code) ≡ 0 → WalkedAs (walkSource s M) (walked.Refused (refusalAt 19 0)) M
+      pub source-empty : length (s .code) ≡ 0 → WalkedBy (walkSource s M) (walked.Refused (refusalAt 19 0)) M
       unfolding walkSource
       source-empty e = rw (sym ok, le-ltb 0 (length (s .code)) (omega arith)) (refl, refl)
 
       module _ (some : length (s .code) ≡ 0 → ⊥) where
-        pub source-short : length M < length (s .code) → WalkedAs (walkSource s M) (walked.Refused (refusalAt 18 0)) M
+        pub source-short : length M < length (s .code) → WalkedBy (walkSource s M) (walked.Refused (refusalAt 18 0)) M
         unfolding walkSource
         source-short h = rw (sym ok, lt-ltb 0 (length (s .code)) (omega arith), lt-leb (length (s .code)) (length M) h) (refl, refl)
 
         -- marks Y were searched by themselves, and stand in front of the rest again
-        pub source-found : (r : Walked) (Y : List ℕ) → length (s .code) ≤ length M → WalkedAs (walkFound s []) r Y → WalkedAs (walkSource s M) r (Y ++ drop (length (s .code)) M)
+        pub source-found : (r : Walked) (Y : List ℕ) → length (s .code) ≤ length M → WalkedBy (walkFound s []) r Y → WalkedBy (walkSource s M) r (Y ++ drop (length (s .code)) M)
         unfolding walkSource
         source-found r Y h w =
             rw (sym ok, lt-ltb 0 (length (s .code)) (omega arith), le-leb (length (s .code)) (length M) h)
             (w .0, ap (λ (y : List ℕ). y ++ drop (length (s .code)) M) (w .1 ∙ no-rest (length (s .code)) marks))
 
   -- ---- demand 3
-  met : (f : Finding) → Claim (walkGraph s) f → Promise s (answer f)
-  met closed c = c
-  met (leaves n o) c = c
+  met : (M : List ℕ) (f : Finding) → Answer (walkGraph s) (length (s .code)) M f → Promise s (answer f) M
+  met M closed a = a
+  met M (leaves n o) a = a
 
-  pub promised : (M : List ℕ) (r : Walked) → r ≡ walkSource s M .0 → Promise s r
+  promised : (M : List ℕ) → Promise s (walkSource s M .0) (walkSource s M .1)
   unfolding walkSource
-  promised M r e = subst (Promise s) (sym e) (go (walkCheck s (length M)) refl)
+  promised M = go (walkCheck s (length M)) refl
     where
-      go : (c : Check) → walkCheck s (length M) ≡ c → Promise s (guardedOn c walked.Refused M (walkFound s M) .0)
-      go (Refused x) h = tt
-      go Ok h =
-          met (finding (walkGraph s)) (finding-meets (walk-good s (ended (or-left whole _ h))))
+      go : (c : Check) → walkCheck s (length M) ≡ c → let x = guardedOn c walked.Refused M (walkFound s M) in Promise s (x .0) (x .1)
+      go (Refused r) h = tt
+      go Ok h = met _ (finding (walkGraph s)) (computed (walk-good s (ended (or-left whole _ h))) (length (s .code)) (drop (length (s .code)) M))
 
 -- ---- the calls
+pub walked-as : {a b : Walked × List ℕ} {r : Walked} {M : List ℕ} → a ≡ b → WalkedBy a r M → WalkedBy b r M
+walked-as {r = r} {M} e w = subst (λ (x : Walked × List ℕ). WalkedBy x r M) e w
+
 -- what a refusal before the code is looked at, or the code's own answer, promises
-pub promise-unless : (s : Source) (c : Check) (M : List ℕ) (r : Walked) → r ≡ guardedOn c walked.Refused M (walkSource s M) .0 → Promise s r
-promise-unless s Ok M r e = promised s M r e
-promise-unless s (Refused x) M r e = subst (Promise s) (sym e) tt
+pub promise-unless : (s : Source) (c : Check) (M : List ℕ) {r : Walked} {M′ : List ℕ} → WalkedBy (guardedOn c walked.Refused M (walkSource s M)) r M′ → Promise s r M′
+promise-unless s c M {r} {M′} w = subst (λ (x : Walked). Promise s x M′) (sym (w .0)) (subst (λ (x : List ℕ). Promise s (guardedOn c walked.Refused M (walkSource s M) .0) x) (sym (w .1)) (go c))
+  where
+    go : (c : Check) → let x = guardedOn c walked.Refused M (walkSource s M) in Promise s (x .0) (x .1)
+    go Ok = promised s M
+    go (Refused x) = tt

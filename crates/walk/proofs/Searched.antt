@@ -1,7 +1,7 @@
 -- Where the store's checks found nothing, the walks by searches are the walks of the definition. Assumes nothing.
 use Prim.Native.Nat.{ℕ, _≤_}
 use mathlib.Core.Path.{_≡_, sym, ap, subst, _∙_}
-use mathlib.Core.Bool.{true}
+use mathlib.Core.Bool.{Bool, true}
 use mathlib.Core.List.{List}
 use native.Mathlib.Omega.{arith}
 use borrow.Author.Tests.{leb-true}
@@ -29,14 +29,18 @@ use Rattle.targets.specs.mirror.Search.{poolSearched}
 use Rattle.refusal.proofs.Laws.{or-right, good-is}
 use Rattle.bytecode.specs.Decode.{checkCode}
 use Rattle.function.specs.declared.PoolObject.{PoolObject}
+use Rattle.function.specs.declared.Function.{Function}
 use Rattle.function.specs.Files.{Files, checkFiles, checkPoolObject, checkLent}
 use Rattle.function.specs.Pool.{poolOf, lentPool}
 use Rattle.function.specs.Code.{codeOf, headerCheck, headerAt}
 use Rattle.function.specs.mirror.Pool.{poolFound, lentFound}
+use Rattle.function.specs.mirror.Function.{functionOf}
 use Rattle.function.proofs.Searched.{header-found, pool-found, elems-found, lent-pool, lent-elems}
 use Rattle.walk.specs.declared.Walked.{Walked}
 use Rattle.walk.specs.Walk.{walkSource, objectSource, walkCall, lentSource, walkLent}
-use Rattle.walk.specs.mirror.Search.{sourceBy, headerFound, walkSearched}
+use Rattle.flow.specs.Opcodes.{opcodesOf}
+use Rattle.steps.specs.Steps.{Source}
+use Rattle.walk.specs.mirror.Search.{sourceOf, sourceBy, headerFound, walkSearched}
 use Rattle.serializer.specs.declared.RawAt.the-variants as raw-at
 use Rattle.header.specs.declared.HeaderAnswer.the-variants as header-answer
 use Rattle.walk.specs.declared.Walked.the-variants as walked
@@ -74,7 +78,7 @@ module _ (f : Files) (M : List ℕ) where
   abbrev walkBy : HeaderAnswer → Pool → (ℕ → Elem) → Walked × List ℕ
   walkBy h p el =
       let l = layoutOf (f .layout) in
-      guardedOn (headerCheck h) walked.Refused M (walkSource (record { code = codeOf f h; opcodes = f .opcodes; types = f .types; rfs = l .frame .«reg_file_start»; pooled = found p; elem = el }) M)
+      guardedOn (headerCheck h) walked.Refused M (walkSource (record { code = codeOf f h; opcodes = opcodesOf (f .opcodes); types = f .types; rfs = l .frame .«reg_file_start»; pooled = found p; elem = el }) M)
 
   pub walked-searched : (k : ℕ) → checkFiles f k ≡ Ok → walkSearched f (objectOf (f .objects) k) M ≡ walkCall f k M
   unfolding walkSearched walkCall
@@ -88,36 +92,43 @@ module _ (f : Files) (M : List ℕ) where
       ∙ sym (ap (λ (c : Check). guardedOn (firstRefusal c (headerCheck (headerAt f k))) walked.Refused M (walkSource (objectSource f k) M)) ok)
 
 -- a header that was found, and its code
-module _ (f : Files) (o : Object) (M code : List ℕ) (l : Layout) (p : Pool) (h : Header) (e1 : l ≡ layoutOf (f .layout)) (e3 : headerSearched (f .slots) (f .payload) o l ≡ header-answer.At h)
+module _ (f : Files) (o : Object) (code : List ℕ) (l : Layout) (h : Header) (e1 : l ≡ layoutOf (f .layout)) (e3 : headerSearched (f .slots) (f .payload) o l ≡ header-answer.At h)
     (e4 : code ≡ take (h .«code_len») (drop (h .«code_at») (f .payload))) where
   pub object-short : length code ≤ 65536
   object-short = subst (λ (c : List ℕ). length c ≤ 65536) (sym e4) (code-short (f .slots) (f .payload) o l h e3)
 
-  pub object-walked : p ≡ poolFound (f .objects) (f .slots) l o → walkSource (sourceBy code (f .opcodes) (f .types) (f .slots) (f .payload) l p) M ≡ walkSearched f o M
+  -- what is found once of it is u
+  pub object-walked : (M : List ℕ) (u : Function) (p : Pool) (params : ℤ) → u ≡ functionOf (f .opcodes) l p params → p ≡ poolFound (f .objects) (f .slots) l o
+      → walkSource (sourceOf code (f .opcodes) (f .types) (f .slots) (f .payload) u) M ≡ walkSearched f o M
   unfolding walkSearched
-  object-walked e2 =
+  object-walked M u p params e e2 =
       let at : headerFound f o ≡ header-answer.At h = ap (λ (x : Layout). headerSearched (f .slots) (f .payload) o x) (sym e1) ∙ e3 in
       let q = poolFound (f .objects) (f .slots) (layoutOf (f .layout)) o in
       let pool : p ≡ q = e2 ∙ ap (λ (x : Layout). poolFound (f .objects) (f .slots) x o) e1 in
-      ap (λ (c : List ℕ). walkSource (sourceBy c (f .opcodes) (f .types) (f .slots) (f .payload) l p) M) e4
-      ∙ ap (λ (x : Layout). walkSource (sourceBy (codeOf f (header-answer.At h)) (f .opcodes) (f .types) (f .slots) (f .payload) x p) M) e1
-      ∙ ap (λ (x : Pool). walkSource (sourceBy (codeOf f (header-answer.At h)) (f .opcodes) (f .types) (f .slots) (f .payload) (layoutOf (f .layout)) x) M) pool
-      ∙ sym (ap (λ (x : HeaderAnswer). guardedOn (headerCheck x) walked.Refused M (walkSource (sourceBy (codeOf f x) (f .opcodes) (f .types) (f .slots) (f .payload) (layoutOf (f .layout)) q) M)) at)
+      let source : List ℕ → Layout → Pool → Source = λ c x y. sourceBy c (f .opcodes) (f .types) (f .slots) (f .payload) x y in
+      ap (λ (x : Function). walkSource (sourceOf code (f .opcodes) (f .types) (f .slots) (f .payload) x) M) e
+      ∙ ap (λ (c : List ℕ). walkSource (source c l p) M) e4
+      ∙ ap (λ (x : Layout). walkSource (source (codeOf f (header-answer.At h)) x p) M) e1
+      ∙ ap (λ (x : Pool). walkSource (source (codeOf f (header-answer.At h)) (layoutOf (f .layout)) x) M) pool
+      ∙ sym (ap (λ (x : HeaderAnswer). guardedOn (headerCheck x) walked.Refused M (walkSource (source (codeOf f x) (layoutOf (f .layout)) q) M)) at)
 
 -- ---- lent code
-module _ (f : Files) (w : PoolObject) (code M : List ℕ) (ok : checkLent f w code ≡ Ok) where
-  pub lent-short : length code ≤ 65536
-  lent-short =
+module _ (f : Files) (w : PoolObject) (code : List ℕ) where
+  pub lent-short : checkLent f w code ≡ Ok → length code ≤ 65536
+  lent-short ok =
       let c = or-right (checkPoolObject (f .objects) (f .slots) (f .payload) w) (checkCode code) (or-right (checkTable (f .opcodes) (f .types) (f .runtime) (f .intrinsic) (f .layout)) _ ok) in
       leb-true (length code) 65536 (good-is (leb (length code) 65536) 10 c)
 
-  pub lent-walked : (l : Layout) (p : Pool) → l ≡ layoutOf (f .layout) → p ≡ lentFound (f .objects) (f .slots) l w
-      → walkSource (sourceBy code (f .opcodes) (f .types) (f .slots) (f .payload) l p) M ≡ walkLent f w code M
+  -- what is found once of it is u
+  pub lent-walked : (M : List ℕ) → checkLent f w code ≡ Ok → (u : Function) (l : Layout) (p : Pool) {params : ℤ} → u ≡ functionOf (f .opcodes) l p params → l ≡ layoutOf (f .layout)
+      → p ≡ lentFound (f .objects) (f .slots) l w → walkSource (sourceOf code (f .opcodes) (f .types) (f .slots) (f .payload) u) M ≡ walkLent f w code M
   unfolding walkLent
-  lent-walked l p e1 e2 =
+  lent-walked M ok u l p e e1 e2 =
       let at = layoutOf (f .layout) in
       let pool = e2 ∙ ap (λ (x : Layout). lentFound (f .objects) (f .slots) x w) e1 in
-      ap (λ (x : Layout). walkSource (sourceBy code (f .opcodes) (f .types) (f .slots) (f .payload) x p) M) e1
-      ∙ ap (λ (x : Pool). walkSource (record { code = code; opcodes = f .opcodes; types = f .types; rfs = at .frame .«reg_file_start»; pooled = found x; elem = poolSearched (f .slots) (f .payload) (at .«tagged_size») p }) M) (lent-pool f w code ok pool)
-      ∙ ap (λ (x : ℕ → Elem). walkSource (record { code = code; opcodes = f .opcodes; types = f .types; rfs = at .frame .«reg_file_start»; pooled = found (lentPool f w); elem = x }) M) (lent-elems f w code ok pool)
+      let source : Bool → (ℕ → Elem) → Source = λ x el. record { code = code; opcodes = opcodesOf (f .opcodes); types = f .types; rfs = at .frame .«reg_file_start»; pooled = x; elem = el } in
+      ap (λ (x : Function). walkSource (sourceOf code (f .opcodes) (f .types) (f .slots) (f .payload) x) M) e
+      ∙ ap (λ (x : Layout). walkSource (sourceBy code (f .opcodes) (f .types) (f .slots) (f .payload) x p) M) e1
+      ∙ ap (λ (x : Pool). walkSource (source (found x) (poolSearched (f .slots) (f .payload) (at .«tagged_size») p)) M) (lent-pool f w code ok pool)
+      ∙ ap (λ (x : ℕ → Elem). walkSource (source (found (lentPool f w)) x) M) (lent-elems f w code ok pool)
       ∙ sym (ap (λ (c : Check). guardedOn c walked.Refused M (walkSource (lentSource f w code) M)) ok)

@@ -15,15 +15,15 @@ use Rattle.refusal.specs.declared.Check.the-variants.{Ok, Refused}
 use Rattle.refusal.specs.Check.{firstRefusal}
 use Rattle.decoder.specs.declared.Outcome.{Outcome}
 use Rattle.decoder.specs.declared.Decoded.{Decoded}
-use Rattle.flow.specs.Flow.{flowOf}
+use Rattle.flow.specs.Opcodes.{Opcodes}
 use Rattle.targets.specs.Targets.{jumpTable, found}
 use Rattle.decoder.specs.declared.Instr.{Instr}
+use Rattle.function.specs.declared.Function.{Function}
 use Rattle.function.specs.Code.{tableCheck}
 use Rattle.function.proofs.Passing.{allOf, restOf, Going, going-start, going-refused, going-end, going-instrs, going-done}
 use Rattle.graph.specs.Lists.{elem}
 use Rattle.graph.proofs.Queues.{zero-at, at-t, off-t}
 use Rattle.steps.specs.Steps.{offset}
-use Rattle.walk.specs.declared.Setup.{Setup}
 use Rattle.walk.specs.mirror.Search.{Started}
 
 or-false : (a : Bool) → a ≡ (a || false)
@@ -50,7 +50,7 @@ set-mark S i t h =
     (λ ne. ap (λ (v : ℕ). eqb v 1) (off-t S i h t ne) ∙ or-false (eqb (getD S t 0) 1) ∙ sym (ap (λ (b : Bool). eqb (getD S t 0) 1 || b) (ne-eqb t i ne)))
     (same? t i)
 
-module _ (ops : List ℕ) (u : Setup) (d : ℕ → Decoded) (len : ℕ) where
+module _ (ops : Opcodes) (u : Function) (d : ℕ → Decoded) (len : ℕ) where
   -- some instructions are passed, up to place i of the code, and their starts are marked
   pub record Marking (S : List ℕ) (check : Check) (i : ℕ) : Type 0 where
     pub going : Going ops (found (u .pool)) d len check i
@@ -83,7 +83,7 @@ module _ (ops : List ℕ) (u : Setup) (d : ℕ → Decoded) (len : ℕ) where
         }
 
     pub marking-done : (c′ : Check) → d i .outcome ≡ Outcome.Done → i < d i .instr .end → d i .instr .end ≤ len → d i .instr .offset ≡ i
-        → c′ ≡ firstRefusal check (tableCheck (jumpTable (found (u .pool)) (flowOf ops (d i .instr .opcode)) (d i .instr)) (d i .instr .offset))
+        → c′ ≡ firstRefusal check (tableCheck (jumpTable (found (u .pool)) (ops .flow (d i .instr .opcode)) (d i .instr)) (d i .instr .offset))
         → Marking (set S i 1) c′ (d i .instr .end)
     unfolding going-done
     marking-done c′ e low high own is =
@@ -98,12 +98,12 @@ module _ (ops : List ℕ) (u : Setup) (d : ℕ → Decoded) (len : ℕ) where
         }
 
 -- ---- the same, of what a call gave: x is what was decoded at i
-module _ (ops : List ℕ) (u : Setup) (d : ℕ → Decoded) (len : ℕ) {S : List ℕ} {check : Check} {i : ℕ} (m : Marking ops u d len S check i) (x : Decoded) (is : x ≡ d i) where
+module _ (ops : Opcodes) (u : Function) (d : ℕ → Decoded) (len : ℕ) {S : List ℕ} {check : Check} {i : ℕ} (m : Marking ops u d len S check i) (x : Decoded) (is : x ≡ d i) where
   pub done-at : (c′ : Check) → x .outcome ≡ Outcome.Done → i < x .instr .end → x .instr .end ≤ len → x .instr .offset ≡ i
-      → c′ ≡ firstRefusal check (tableCheck (jumpTable (found (u .pool)) (flowOf ops (x .instr .opcode)) (x .instr)) (x .instr .offset)) → Marking ops u d len (set S i 1) c′ (x .instr .end)
+      → c′ ≡ firstRefusal check (tableCheck (jumpTable (found (u .pool)) (ops .flow (x .instr .opcode)) (x .instr)) (x .instr .offset)) → Marking ops u d len (set S i 1) c′ (x .instr .end)
   done-at c′ =
       subst (λ (y : Decoded). y .outcome ≡ Outcome.Done → i < y .instr .end → y .instr .end ≤ len → y .instr .offset ≡ i
-      → c′ ≡ firstRefusal check (tableCheck (jumpTable (found (u .pool)) (flowOf ops (y .instr .opcode)) (y .instr)) (y .instr .offset)) → Marking ops u d len (set S i 1) c′ (y .instr .end)) (sym is) (marking-done ops u d len m c′)
+      → c′ ≡ firstRefusal check (tableCheck (jumpTable (found (u .pool)) (ops .flow (y .instr .opcode)) (y .instr)) (y .instr .offset)) → Marking ops u d len (set S i 1) c′ (y .instr .end)) (sym is) (marking-done ops u d len m c′)
 
   pub refused-at : (r : Refusal) → x .outcome ≡ Outcome.Refused r → Started ops u (allOf d len) len S (Refused r)
   refused-at r e = marking-refused ops u d len m r (ap (λ (y : Decoded). y .outcome) (sym is) ∙ e)

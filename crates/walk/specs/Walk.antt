@@ -15,11 +15,13 @@ use Rattle.function.specs.declared.PoolObject.{PoolObject}
 use Rattle.function.specs.Files.{Files, checkFiles, checkLent}
 use Rattle.function.specs.Pool.{poolOf, lentPool}
 use Rattle.function.specs.Code.{headerAt, headerCheck, codeOf, listingCheck}
-use Rattle.graph.specs.Graph.{Finding, Closed, Leaves, finding, markList}
+use Rattle.graph.specs.Graph.{Finding, Answer, finding, markList}
 use Rattle.graph.specs.Graph.Finding.{closed, leaves}
+use Rattle.flow.specs.Opcodes.{opcodesOf}
 use Rattle.steps.specs.Steps.{Source, listing, walkGraph}
 use Rattle.walk.specs.declared.Walked.{Walked}
 use Rattle.walk.specs.declared.Walked.the-variants as walked
+use Rattle.walk.specs.Numbers.{walkedNumbers}
 
 -- a finding as an answer
 abbrev pub answer : Finding → Walked
@@ -42,23 +44,24 @@ walkFound s marks = let g = walkGraph s in (answer (finding g), markList g (find
 unfoldable pub walkSource : Source → List ℕ → Walked × List ℕ
 walkSource s marks = guardedOn (walkCheck s (length marks)) walked.Refused marks (walkFound s marks)
 
--- an answer r and marks M are those of a call
+-- an answer r and marks M are those of a call, the answer in 01's numbers
 abbrev pub WalkedAs : Walked × List ℕ → Walked → List ℕ → Type 0
-WalkedAs a r M = (r ≡ a .0) × (M ≡ a .1)
+WalkedAs a r M = (walkedNumbers r ≡ walkedNumbers (a .0)) × (M ≡ a .1)
 
--- Demand 3, of an answer: "closed" means that no walk of any length leaves; else some walk leaves from there in exactly that many steps, no
--- walk leaves in fewer, none with as many from a lower offset.
-abbrev pub Promise : Source → Walked → Type 0
-Promise s walked.Closed = Closed (walkGraph s)
-Promise s (walked.Leaves n o) = Leaves (walkGraph s) n o
-Promise s (walked.Refused r) = Unit {0}
+-- Demand 3, of an answer and of the marks M behind it. "closed" means that no walk of any length leaves; else some walk leaves from there in
+-- exactly that many steps, no walk leaves in fewer, none with as many from a lower offset. The mark of an offset of the code is 1 just where some
+-- walk, after "leaves in n steps" one of fewer than n, ends there, and else 0.
+abbrev pub Promise : Source → Walked → List ℕ → Type 0
+Promise s walked.Closed M = Answer (walkGraph s) (length (s .code)) M closed
+Promise s (walked.Leaves n o) M = Answer (walkGraph s) (length (s .code)) M (leaves n o)
+Promise s (walked.Refused r) M = Unit {0}
 
 -- ---- the walks of an object
 -- code, with the files and a pool
 abbrev pub sourceWith : Files → List ℕ → Pool → Source
 sourceWith f code p =
     let l = layoutOf (f .layout) in
-    record { code = code; opcodes = f .opcodes; types = f .types; rfs = l .frame .«reg_file_start»; pooled = found p; elem = poolElem (f .slots) (f .payload) (l .«tagged_size») p }
+    record { code = code; opcodes = opcodesOf (f .opcodes); types = f .types; rfs = l .frame .«reg_file_start»; pooled = found p; elem = poolElem (f .slots) (f .payload) (l .«tagged_size») p }
 
 abbrev pub objectSource : Files → ℕ → Source
 objectSource f k = sourceWith f (codeOf f (headerAt f k)) (poolOf f (objectOf (f .objects) k))

@@ -1,6 +1,7 @@
 // The walk check: breadth first over the listed instructions, each expanded once.
 
 use decoder::Outcome;
+use function::Function;
 use function::PoolObject;
 use header::HeaderAnswer;
 use refusal::Check;
@@ -8,35 +9,28 @@ use refusal::Refusal;
 use steps::Next;
 use steps::Way;
 use store::Object;
-use tables::Layout;
-use targets::Pool;
 ghost use mathlib.Core.Path.{_≡_};
 ghost use Prim.Native.Nat.{_≤_, _<_};
 ghost use mathlib.Core.Bool.{true, false};
 ghost use lib.ListN.{length, getD, replicate};
 ghost use Rattle.decoder.specs.Listed.{listed};
-ghost use Rattle.graph.specs.Graph.{isStart, Succ, exits};
+ghost use Rattle.flow.specs.Opcodes.{Opcodes, opcodesOf};
+ghost use Rattle.graph.specs.Graph.{Graph, isStart, Succ, exits};
 ghost use Rattle.graph.specs.mirror.Queue.{Held, Grown, SuccIn, Quiet, Lowest, lowerOf};
-ghost use Rattle.steps.specs.mirror.Ways.{wayAt};
+ghost use Rattle.tables.specs.Records.{prefixOp};
+ghost use Rattle.steps.specs.Steps.{Source, listing};
+ghost use Rattle.steps.specs.mirror.Ways.{wayAt, searchGraph};
 ghost use mathlib.Core.List.{[]};
 ghost use Rattle.decoder.specs.declared.Outcome.{Outcome as OutcomeIs};
+ghost use Rattle.function.specs.Files.{Files, filesOf, lentFiles};
 ghost use Rattle.walk.specs.Walk.{walkFound, walkSource, WalkedAs, Promise, objectSource, walkCall, lentSource, walkLent};
-ghost use Rattle.walk.specs.mirror.Search.{sourceOf, graphOf, Tabled, Ready, StartsAre, Started, foundAs, Answered, sourceBy, walkSearched};
+ghost use Rattle.walk.specs.mirror.Search.{sourceOf, graphOf, Tabled, Ready, StartsAre, Started, foundAs, WalkedBy, Answered, walkSearched};
 
 // The answer to a walk check: closed, or the steps of the shortest walk that leaves and the offset it leaves from, or a refusal.
 pub enum Walked {
     Closed,
     Leaves(usize, usize),
     Refused(Refusal),
-}
-
-// What is found once for all instructions: the tagged size, the pool, the register file's start and the prefix opcodes.
-pub struct Setup {
-    pub ts: u8,
-    pub pool: Pool,
-    pub rfs: i32,
-    pub wide: usize,
-    pub extra: usize,
 }
 
 // An offset, where one was found.
@@ -58,7 +52,9 @@ pub fn walk(
     payload: &[u8],
     object: usize,
 ) -> Walked
-    ensures { λ r. ⌜ WalkedAs (walkCall (record { opcodes = now (opcodes .entry); types = now (types .entry); runtime = now (runtime .entry); intrinsic = now (intrinsic .entry); layout = now (layout .entry); objects = now (objects .entry); slots = now (slots .entry); payload = now (payload .entry) }) object (now (marks .entry))) r (now (marks .exit)) × Promise (objectSource (record { opcodes = now (opcodes .entry); types = now (types .entry); runtime = now (runtime .entry); intrinsic = now (intrinsic .entry); layout = now (layout .entry); objects = now (objects .entry); slots = now (slots .entry); payload = now (payload .entry) }) object) r ⌝ }
+    ensures { λ r. let f : Files = filesOf (now (opcodes .entry)) (now (types .entry)) (now (runtime .entry)) (now (intrinsic .entry))
+        (now (layout .entry)) (now (objects .entry)) (now (slots .entry)) (now (payload .entry)) in
+        ⌜ WalkedAs (walkCall f object (now (marks .entry))) r (now (marks .exit)) × Promise (objectSource f object) r (now (marks .exit)) ⌝ }
 {
     let check = function::check_files(
         opcodes,
@@ -100,7 +96,10 @@ pub fn walk_code(
     payload: &[u8],
     object: PoolObject,
 ) -> Walked
-    ensures { λ r. ⌜ WalkedAs (walkLent (record { opcodes = now (opcodes .entry); types = now (types .entry); runtime = []; intrinsic = []; layout = now (layout .entry); objects = now (objects .entry); slots = now (slots .entry); payload = now (payload .entry) }) object (now (code .entry)) (now (marks .entry))) r (now (marks .exit)) × Promise (lentSource (record { opcodes = now (opcodes .entry); types = now (types .entry); runtime = []; intrinsic = []; layout = now (layout .entry); objects = now (objects .entry); slots = now (slots .entry); payload = now (payload .entry) }) object (now (code .entry))) r ⌝ }
+    ensures { λ r. let f : Files = lentFiles (now (opcodes .entry)) (now (types .entry)) (now (layout .entry))
+        (now (objects .entry)) (now (slots .entry)) (now (payload .entry)) in
+        ⌜ WalkedAs (walkLent f object (now (code .entry)) (now (marks .entry))) r (now (marks .exit))
+        × Promise (lentSource f object (now (code .entry))) r (now (marks .exit)) ⌝ }
 {
     let check = function::check_lent(
         code,
@@ -117,7 +116,8 @@ pub fn walk_code(
         Check::Ok => {
             let shape = tables::layout_of(layout);
             let pool = function::lent_pool(objects, slots, shape, object);
-            walk_source(marks, code, opcodes, types, slots, payload, shape, pool)
+            let f = function::function_of(opcodes, shape, pool, 0);
+            walk_source(marks, code, opcodes, types, slots, payload, f)
         }
     }
 }
@@ -135,15 +135,18 @@ fn walk_object(
     payload: &[u8],
     object: Object,
 ) -> Walked
-    ensures { λ r. ⌜ WalkedAs (walkSearched (record { opcodes = now (opcodes .entry); types = now (types .entry); runtime = now (runtime .entry); intrinsic = now (intrinsic .entry); layout = now (layout .entry); objects = now (objects .entry); slots = now (slots .entry); payload = now (payload .entry) }) object (now (marks .entry))) r (now (marks .exit)) ⌝ }
+    ensures { λ r. let s : Files = filesOf (now (opcodes .entry)) (now (types .entry)) (now (runtime .entry)) (now (intrinsic .entry))
+        (now (layout .entry)) (now (objects .entry)) (now (slots .entry)) (now (payload .entry)) in
+        ⌜ WalkedBy (walkSearched s object (now (marks .entry))) r (now (marks .exit)) ⌝ }
 {
     let shape = tables::layout_of(layout);
-    match header::header_of(slots, payload, object, shape) {
+    match header::header_at_unchecked(slots, payload, object, shape) {
         HeaderAnswer::Refused(refusal) => Walked::Refused(refusal),
         HeaderAnswer::At(h) => {
             let pool = function::pool_of(objects, slots, shape, object);
+            let f = function::function_of(opcodes, shape, pool, h.parameter_count);
             let code = serializer::lent(payload, h.code_at, h.code_len);
-            walk_source(marks, code, opcodes, types, slots, payload, shape, pool)
+            walk_source(marks, code, opcodes, types, slots, payload, f)
         }
     }
 }
@@ -156,23 +159,15 @@ fn walk_source(
     types: &[u8],
     slots: &[u8],
     payload: &[u8],
-    shape: Layout,
-    pool: Pool,
+    f: Function,
 ) -> Walked
-    requires { ⌜ length (now code) ≤ 65536 ⌝ }
-    ensures { λ r. ⌜ WalkedAs (walkSource (sourceBy (now (code .entry)) (now (opcodes .entry)) (now (types .entry)) (now (slots .entry)) (now (payload .entry)) shape pool) (now (marks .entry))) r (now (marks .exit)) ⌝ }
+    requires { ⌜ (length (now code) ≤ 65536) × (f .wide ≡ prefixOp (now opcodes) 1) × (f .extra ≡ prefixOp (now opcodes) 2) ⌝ }
+    ensures { λ r. ⌜ WalkedBy (walkSource
+        (sourceOf (now (code .entry)) (now (opcodes .entry)) (now (types .entry)) (now (slots .entry)) (now (payload .entry)) f)
+        (now (marks .entry))) r (now (marks .exit)) ⌝ }
 {
-    let prefixes = tables::prefix_ops(opcodes);
     let flows = flow::flow_numbers(opcodes);
-    let frame = shape.frame;
-    let setup = Setup {
-        ts: shape.tagged_size,
-        pool,
-        rfs: frame.reg_file_start,
-        wide: prefixes.wide as usize,
-        extra: prefixes.extra_wide as usize,
-    };
-    walk_sized(marks, code, opcodes, types, slots, payload, &flows, setup)
+    walk_sized(marks, code, opcodes, types, slots, payload, &flows, f)
 }
 
 // Room by the code's length: most code is short, and the room is cleared in each call. A byte a start, and two an offset that is queued.
@@ -184,15 +179,17 @@ fn walk_sized(
     slots: &[u8],
     payload: &[u8],
     flows: &[u8],
-    setup: Setup,
+    f: Function,
 ) -> Walked
-    requires { ⌜ (length (now code) ≤ 65536) × Tabled (now opcodes) (now flows) setup ⌝ }
-    ensures { λ r. ⌜ WalkedAs (walkSource (sourceOf (now (code .entry)) (now (opcodes .entry)) (now (types .entry)) (now (slots .entry)) (now (payload .entry)) setup) (now (marks .entry))) r (now (marks .exit)) ⌝ }
+    requires { ⌜ (length (now code) ≤ 65536) × Tabled (now opcodes) (now flows) f ⌝ }
+    ensures { λ r. ⌜ WalkedBy (walkSource
+        (sourceOf (now (code .entry)) (now (opcodes .entry)) (now (types .entry)) (now (slots .entry)) (now (payload .entry)) f)
+        (now (marks .entry))) r (now (marks .exit)) ⌝ }
 {
     if code.len() <= 2048 {
-        return walk_short(marks, code, opcodes, types, slots, payload, flows, setup);
+        return walk_short(marks, code, opcodes, types, slots, payload, flows, f);
     }
-    walk_long(marks, code, opcodes, types, slots, payload, flows, setup)
+    walk_long(marks, code, opcodes, types, slots, payload, flows, f)
 }
 
 fn walk_short(
@@ -203,10 +200,12 @@ fn walk_short(
     slots: &[u8],
     payload: &[u8],
     flows: &[u8],
-    setup: Setup,
+    f: Function,
 ) -> Walked
-    requires { ⌜ (length (now code) ≤ 2048) × Tabled (now opcodes) (now flows) setup ⌝ }
-    ensures { λ r. ⌜ WalkedAs (walkSource (sourceOf (now (code .entry)) (now (opcodes .entry)) (now (types .entry)) (now (slots .entry)) (now (payload .entry)) setup) (now (marks .entry))) r (now (marks .exit)) ⌝ }
+    requires { ⌜ (length (now code) ≤ 2048) × Tabled (now opcodes) (now flows) f ⌝ }
+    ensures { λ r. ⌜ WalkedBy (walkSource
+        (sourceOf (now (code .entry)) (now (opcodes .entry)) (now (types .entry)) (now (slots .entry)) (now (payload .entry)) f)
+        (now (marks .entry))) r (now (marks .exit)) ⌝ }
 {
     let mut starts = [0u8; 2048];
     let mut queue = [0u16; 2048];
@@ -218,7 +217,7 @@ fn walk_short(
         slots,
         payload,
         flows,
-        setup,
+        f,
         &mut starts,
         &mut queue,
     )
@@ -232,10 +231,12 @@ fn walk_long(
     slots: &[u8],
     payload: &[u8],
     flows: &[u8],
-    setup: Setup,
+    f: Function,
 ) -> Walked
-    requires { ⌜ (length (now code) ≤ 65536) × Tabled (now opcodes) (now flows) setup ⌝ }
-    ensures { λ r. ⌜ WalkedAs (walkSource (sourceOf (now (code .entry)) (now (opcodes .entry)) (now (types .entry)) (now (slots .entry)) (now (payload .entry)) setup) (now (marks .entry))) r (now (marks .exit)) ⌝ }
+    requires { ⌜ (length (now code) ≤ 65536) × Tabled (now opcodes) (now flows) f ⌝ }
+    ensures { λ r. ⌜ WalkedBy (walkSource
+        (sourceOf (now (code .entry)) (now (opcodes .entry)) (now (types .entry)) (now (slots .entry)) (now (payload .entry)) f)
+        (now (marks .entry))) r (now (marks .exit)) ⌝ }
 {
     let mut starts = [0u8; 65536];
     let mut queue = [0u16; 65536];
@@ -247,7 +248,7 @@ fn walk_long(
         slots,
         payload,
         flows,
-        setup,
+        f,
         &mut starts,
         &mut queue,
     )
@@ -262,17 +263,20 @@ fn walk_in(
     slots: &[u8],
     payload: &[u8],
     flows: &[u8],
-    setup: Setup,
+    f: Function,
     starts: &mut [u8],
     queue: &mut [u16],
 ) -> Walked
-    requires { ⌜ (length (now code) ≤ 65536) × (length (now code) ≤ length (now starts)) × (length (now code) ≤ length (now queue)) × Tabled (now opcodes) (now flows) setup ⌝ }
-    ensures { λ r. ⌜ WalkedAs (walkSource (sourceOf (now (code .entry)) (now (opcodes .entry)) (now (types .entry)) (now (slots .entry)) (now (payload .entry)) setup) (now (marks .entry))) r (now (marks .exit)) ⌝ }
+    requires { ⌜ (length (now code) ≤ 65536) × (length (now code) ≤ length (now starts)) × (length (now code) ≤ length (now queue))
+        × Tabled (now opcodes) (now flows) f ⌝ }
+    ensures { λ r. ⌜ WalkedBy (walkSource
+        (sourceOf (now (code .entry)) (now (opcodes .entry)) (now (types .entry)) (now (slots .entry)) (now (payload .entry)) f)
+        (now (marks .entry))) r (now (marks .exit)) ⌝ }
 {
     let n = code.len();
     let s = &mut starts[..n];
     clear(s);
-    let check = mark_starts(code, opcodes, types, flows, setup, s);
+    let check = mark_starts(code, opcodes, types, flows, f, s);
     match check {
         Check::Refused(refusal) => Walked::Refused(refusal),
         Check::Ok => {
@@ -296,7 +300,7 @@ fn walk_in(
                 slots,
                 payload,
                 flows,
-                setup,
+                f,
                 s,
                 &mut marks[..n],
                 queue,
@@ -313,13 +317,16 @@ fn search(
     slots: &[u8],
     payload: &[u8],
     flows: &[u8],
-    setup: Setup,
+    f: Function,
     starts: &[u8],
     marks: &mut [u8],
     queue: &mut [u16],
 ) -> Walked
-    requires { ⌜ (length (now marks) ≡ length (now code)) × (0 < length (now code)) × (length (now code) ≤ 65536) × (length (now code) ≤ length (now queue)) × Tabled (now opcodes) (now flows) setup × (listed (now code) (now opcodes) (now types) (setup .rfs) .outcome ≡ OutcomeIs.End) × StartsAre ((graphOf (now code) (now opcodes) (now types) (now slots) (now payload) setup) .starts) (now starts) ⌝ }
-    ensures { λ r. ⌜ WalkedAs (walkFound (sourceOf (now (code .entry)) (now (opcodes .entry)) (now (types .entry)) (now (slots .entry)) (now (payload .entry)) setup) []) r (now (marks .exit)) ⌝ }
+    requires { let s : Source = sourceOf (now code) (now opcodes) (now types) (now slots) (now payload) f in
+        ⌜ (length (now marks) ≡ length (now code)) × (0 < length (now code)) × (length (now code) ≤ 65536) × (length (now code) ≤ length (now queue))
+        × Tabled (now opcodes) (now flows) f × (listing s .outcome ≡ OutcomeIs.End) × StartsAre (searchGraph s .starts) (now starts) ⌝ }
+    ensures { λ r. let s : Source = sourceOf (now (code .entry)) (now (opcodes .entry)) (now (types .entry)) (now (slots .entry)) (now (payload .entry)) f in
+        ⌜ WalkedBy (walkFound s []) r (now (marks .exit)) ⌝ }
 {
     clear(marks);
     levels(
@@ -329,7 +336,7 @@ fn search(
         slots,
         payload,
         flows,
-        setup,
+        f,
         starts,
         marks,
         queue,
@@ -342,25 +349,35 @@ fn mark_starts(
     opcodes: &[u8],
     types: &[u8],
     flows: &[u8],
-    setup: Setup,
+    f: Function,
     starts: &mut [u8],
 ) -> Check
-    requires { ⌜ Tabled (now opcodes) (now flows) setup × (now starts ≡ replicate (length (now code)) 0) ⌝ }
-    ensures { λ r. ⌜ Started (now (opcodes .entry)) setup (listed (now (code .entry)) (now (opcodes .entry)) (now (types .entry)) (setup .rfs)) (length (now (code .entry))) (now (starts .exit)) r ⌝ }
+    requires { ⌜ Tabled (now opcodes) (now flows) f × (now starts ≡ replicate (length (now code)) 0) ⌝ }
+    ensures { λ r. let ops : Opcodes = opcodesOf (now (opcodes .entry)) in
+        ⌜ Started ops f (listed (now (code .entry)) ops (now (types .entry)) (f .frame .«reg_file_start»)) (length (now (code .entry))) (now (starts .exit)) r ⌝ }
 {
-    let pool = setup.pool;
+    let pool = f.pool;
+    let frame = f.frame;
     let mut check = Check::Ok;
     let mut i: usize = 0;
     while i < code.len() {
-        let d = decoder::decode_at(code, opcodes, types, i, setup.rfs, setup.wide, setup.extra);
+        let d = decoder::decode_at(
+            code,
+            opcodes,
+            types,
+            i,
+            frame.reg_file_start,
+            f.wide,
+            f.extra,
+        );
         let outcome = d.outcome;
         let instr = d.instr;
         match outcome {
             Outcome::Refused(refusal) => return Check::Refused(refusal),
             Outcome::End => return check,
             Outcome::Done => {
-                let flow = flow::flow_by(words::byte_at(flows, instr.opcode as usize));
-                let table = targets::jump_table(pool, flow, instr);
+                let flow = flow::flow_in(flows, instr.opcode);
+                let table = targets::jump_table_unchecked(pool, flow, instr);
                 check = refusal::first_refusal(check, function::table_check(table, instr.offset));
                 starts[i] = 1;
                 i = instr.end;
@@ -378,20 +395,27 @@ fn way_at(
     slots: &[u8],
     payload: &[u8],
     flows: &[u8],
-    setup: Setup,
+    f: Function,
     o: usize,
 ) -> Way
-    requires { ⌜ Tabled (now opcodes) (now flows) setup ⌝ }
-    ensures { λ r. ⌜ r ≡ wayAt (sourceOf (now (code .entry)) (now (opcodes .entry)) (now (types .entry)) (now (slots .entry)) (now (payload .entry)) setup) o ⌝ }
+    requires { ⌜ Tabled (now opcodes) (now flows) f ⌝ }
+    ensures { λ r. ⌜ r ≡ wayAt
+        (sourceOf (now (code .entry)) (now (opcodes .entry)) (now (types .entry)) (now (slots .entry)) (now (payload .entry)) f) o ⌝ }
 {
-    let rfs = setup.rfs;
-    let pool = setup.pool;
-    let wide = setup.wide;
-    let extra = setup.extra;
-    let d = decoder::decode_at(code, opcodes, types, o, rfs, wide, extra);
+    let pool = f.pool;
+    let frame = f.frame;
+    let d = decoder::decode_at(
+        code,
+        opcodes,
+        types,
+        o,
+        frame.reg_file_start,
+        f.wide,
+        f.extra,
+    );
     let instr = d.instr;
-    let flow = flow::flow_by(words::byte_at(flows, instr.opcode as usize));
-    steps::way_of(slots, payload, setup.ts, pool, flow, instr)
+    let flow = flow::flow_in(flows, instr.opcode);
+    steps::way_of(slots, payload, f.ts, pool, flow, instr)
 }
 
 // Whether some step from o leaves.
@@ -402,18 +426,20 @@ fn exits(
     slots: &[u8],
     payload: &[u8],
     flows: &[u8],
-    setup: Setup,
+    f: Function,
     starts: &[u8],
     o: usize,
 ) -> bool
-    requires { ⌜ Ready (now opcodes) (now flows) setup (graphOf (now code) (now opcodes) (now types) (now slots) (now payload) setup) (length (now code)) × StartsAre ((graphOf (now code) (now opcodes) (now types) (now slots) (now payload) setup) .starts) (now starts) ⌝ }
-    ensures { λ r. ⌜ r ≡ exits (graphOf (now (code .entry)) (now (opcodes .entry)) (now (types .entry)) (now (slots .entry)) (now (payload .entry)) setup) o ⌝ }
+    requires { let g : Graph = graphOf (now code) (now opcodes) (now types) (now slots) (now payload) f in
+        ⌜ Ready (now opcodes) (now flows) f g (length (now code)) × StartsAre (g .starts) (now starts) ⌝ }
+    ensures { λ r. let g : Graph = graphOf (now (code .entry)) (now (opcodes .entry)) (now (types .entry)) (now (slots .entry)) (now (payload .entry)) f in
+        ⌜ r ≡ exits g o ⌝ }
 {
-    let pool = setup.pool;
-    let way = way_at(code, opcodes, types, slots, payload, flows, setup, o);
+    let pool = f.pool;
+    let way = way_at(code, opcodes, types, slots, payload, flows, f, o);
     let mut k: usize = 0;
     loop {
-        let s = steps::step_of(slots, payload, setup.ts, pool, way, k);
+        let s = steps::step_of(slots, payload, f.ts, pool, way, k);
         match s {
             Next::Done => return false,
             Next::NoTarget => return true,
@@ -442,35 +468,28 @@ fn lowest(
     slots: &[u8],
     payload: &[u8],
     flows: &[u8],
-    setup: Setup,
+    f: Function,
     starts: &[u8],
     queue: &[u16],
     lo: usize,
     hi: usize,
 ) -> Found
-    requires { ⌜ (lo ≤ hi) × (hi ≤ length (now queue)) × Ready (now opcodes) (now flows) setup (graphOf (now code) (now opcodes) (now types) (now slots) (now payload) setup) (length (now code)) × StartsAre ((graphOf (now code) (now opcodes) (now types) (now slots) (now payload) setup) .starts) (now starts) ⌝ }
-    ensures { λ r. ⌜ Lowest (graphOf (now (code .entry)) (now (opcodes .entry)) (now (types .entry)) (now (slots .entry)) (now (payload .entry)) setup) (now (queue .entry)) lo hi (foundAs r) ⌝ }
+    requires { let g : Graph = graphOf (now code) (now opcodes) (now types) (now slots) (now payload) f in
+        ⌜ (lo ≤ hi) × (hi ≤ length (now queue)) × Ready (now opcodes) (now flows) f g (length (now code))
+        × StartsAre (g .starts) (now starts) ⌝ }
+    ensures { λ r. let g : Graph = graphOf (now (code .entry)) (now (opcodes .entry)) (now (types .entry)) (now (slots .entry)) (now (payload .entry)) f in
+        ⌜ Lowest g (now (queue .entry)) lo hi (foundAs r) ⌝ }
 {
     let mut i = lo;
-    let mut f = Found::Nothing;
+    let mut low = Found::Nothing;
     while i < hi {
         let o = wide16(queue[i]);
         i += 1;
-        if exits(
-            code,
-            opcodes,
-            types,
-            slots,
-            payload,
-            flows,
-            setup,
-            starts,
-            o,
-        ) {
-            f = lower(f, o);
+        if exits(code, opcodes, types, slots, payload, flows, f, starts, o) {
+            low = lower(low, o);
         }
     }
-    f
+    low
 }
 
 fn lower(f: Found, o: usize) -> Found
@@ -508,21 +527,24 @@ fn push_steps(
     slots: &[u8],
     payload: &[u8],
     flows: &[u8],
-    setup: Setup,
+    f: Function,
     o: usize,
     marks: &mut [u8],
     queue: &mut [u16],
     tail: usize,
 ) -> usize
-    requires { ⌜ Held (now marks) (now queue) tail × (length (now marks) ≡ length (now code)) × (exits (graphOf (now code) (now opcodes) (now types) (now slots) (now payload) setup) o ≡ false) × Ready (now opcodes) (now flows) setup (graphOf (now code) (now opcodes) (now types) (now slots) (now payload) setup) (length (now code)) ⌝ }
-    ensures { λ r. ⌜ Grown (now (queue .entry)) tail (now (marks .exit)) (now (queue .exit)) r (Succ (graphOf (now (code .entry)) (now (opcodes .entry)) (now (types .entry)) (now (slots .entry)) (now (payload .entry)) setup) o) ⌝ }
+    requires { let g : Graph = graphOf (now code) (now opcodes) (now types) (now slots) (now payload) f in
+        ⌜ Held (now marks) (now queue) tail × (length (now marks) ≡ length (now code)) × (exits g o ≡ false)
+        × Ready (now opcodes) (now flows) f g (length (now code)) ⌝ }
+    ensures { λ r. let g : Graph = graphOf (now (code .entry)) (now (opcodes .entry)) (now (types .entry)) (now (slots .entry)) (now (payload .entry)) f in
+        ⌜ Grown (now (queue .entry)) tail (now (marks .exit)) (now (queue .exit)) r (Succ g o) ⌝ }
 {
-    let pool = setup.pool;
-    let way = way_at(code, opcodes, types, slots, payload, flows, setup, o);
+    let pool = f.pool;
+    let way = way_at(code, opcodes, types, slots, payload, flows, f, o);
     let mut end = tail;
     let mut k: usize = 0;
     loop {
-        let s = steps::step_of(slots, payload, setup.ts, pool, way, k);
+        let s = steps::step_of(slots, payload, f.ts, pool, way, k);
         match s {
             Next::Done => return end,
             Next::NoTarget => return end,
@@ -542,14 +564,17 @@ fn push_level(
     slots: &[u8],
     payload: &[u8],
     flows: &[u8],
-    setup: Setup,
+    f: Function,
     marks: &mut [u8],
     queue: &mut [u16],
     lo: usize,
     hi: usize,
 ) -> usize
-    requires { ⌜ Held (now marks) (now queue) hi × (length (now marks) ≡ length (now code)) × (lo ≤ hi) × Quiet (graphOf (now code) (now opcodes) (now types) (now slots) (now payload) setup) (now queue) lo hi × Ready (now opcodes) (now flows) setup (graphOf (now code) (now opcodes) (now types) (now slots) (now payload) setup) (length (now code)) ⌝ }
-    ensures { λ r. ⌜ Grown (now (queue .entry)) hi (now (marks .exit)) (now (queue .exit)) r (SuccIn (graphOf (now (code .entry)) (now (opcodes .entry)) (now (types .entry)) (now (slots .entry)) (now (payload .entry)) setup) (now (queue .entry)) lo hi) ⌝ }
+    requires { let g : Graph = graphOf (now code) (now opcodes) (now types) (now slots) (now payload) f in
+        ⌜ Held (now marks) (now queue) hi × (length (now marks) ≡ length (now code)) × (lo ≤ hi) × Quiet g (now queue) lo hi
+        × Ready (now opcodes) (now flows) f g (length (now code)) ⌝ }
+    ensures { λ r. let g : Graph = graphOf (now (code .entry)) (now (opcodes .entry)) (now (types .entry)) (now (slots .entry)) (now (payload .entry)) f in
+        ⌜ Grown (now (queue .entry)) hi (now (marks .exit)) (now (queue .exit)) r (SuccIn g (now (queue .entry)) lo hi) ⌝ }
 {
     let mut end = hi;
     let mut i = lo;
@@ -562,7 +587,7 @@ fn push_level(
             slots,
             payload,
             flows,
-            setup,
+            f,
             o,
             marks,
             queue,
@@ -581,32 +606,35 @@ fn levels(
     slots: &[u8],
     payload: &[u8],
     flows: &[u8],
-    setup: Setup,
+    f: Function,
     starts: &[u8],
     marks: &mut [u8],
     queue: &mut [u16],
 ) -> Walked
-    requires { ⌜ Held (now marks) (now queue) 0 × (length (now marks) ≡ length (now code)) × (0 < length (now code)) × Ready (now opcodes) (now flows) setup (graphOf (now code) (now opcodes) (now types) (now slots) (now payload) setup) (length (now code)) × StartsAre ((graphOf (now code) (now opcodes) (now types) (now slots) (now payload) setup) .starts) (now starts) × (isStart (graphOf (now code) (now opcodes) (now types) (now slots) (now payload) setup) 0 ≡ true) ⌝ }
-    ensures { λ r. ⌜ Answered (graphOf (now (code .entry)) (now (opcodes .entry)) (now (types .entry)) (now (slots .entry)) (now (payload .entry)) setup) (length (now (code .entry))) (now (marks .exit)) r ⌝ }
+    requires { let g : Graph = graphOf (now code) (now opcodes) (now types) (now slots) (now payload) f in
+        ⌜ Held (now marks) (now queue) 0 × (length (now marks) ≡ length (now code)) × (0 < length (now code))
+        × Ready (now opcodes) (now flows) f g (length (now code)) × StartsAre (g .starts) (now starts) × (isStart g 0 ≡ true) ⌝ }
+    ensures { λ r. let g : Graph = graphOf (now (code .entry)) (now (opcodes .entry)) (now (types .entry)) (now (slots .entry)) (now (payload .entry)) f in
+        ⌜ Answered g (length (now (code .entry))) (now (marks .exit)) r ⌝ }
 {
     let mut lo = 0;
     let mut hi = push(marks, queue, 0, 0);
     let mut d = 0;
     while lo < hi {
-        let f = lowest(
+        let low = lowest(
             code,
             opcodes,
             types,
             slots,
             payload,
             flows,
-            setup,
+            f,
             starts,
             queue,
             lo,
             hi,
         );
-        if let Found::At(o) = f {
+        if let Found::At(o) = low {
             let steps = d + 1;
             return Walked::Leaves(steps, o);
         }
@@ -617,7 +645,7 @@ fn levels(
             slots,
             payload,
             flows,
-            setup,
+            f,
             marks,
             queue,
             lo,

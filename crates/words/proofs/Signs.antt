@@ -117,7 +117,7 @@ last-law first count x y d p q fd e =
     wrap-sub (first +ℤ pos count) (pos 1) y 1 d n refl fd e
 
 -- wrapping twice is wrapping once
-modulo-wrap : (z : ℤ) → modulo (2 ^ 32) (wrap32 z) ≡ modulo (2 ^ 32) z
+pub modulo-wrap : (z : ℤ) → modulo (2 ^ 32) (wrap32 z) ≡ modulo (2 ^ 32) z
 unfolding wrap32
 modulo-wrap z =
     let l = modulo-lt (2 ^ 32) (omega arith) z in

@@ -1,4 +1,5 @@
-use mathlib.Core.Path.{refl}
+use Rattle.walk.specs.declared.Walked.the-variants as walked
+use Rattle.capi.proofs.Laws.{walk-told}
 use borrow.Author.Needs.{needs}
 use Rattle.capi.proofs.jscd_walk.Statement.{statement}
 use Rattle.capi.proofs.jscd_walk.Tie as tie
@@ -19,19 +20,19 @@ same-length : tie.Need-same-length
 same-length c = search needs
 
 returns : tie.Need-returns
-returns c = rw (← c .before .before .before .before .walk .ensures .0 .0, ← c .before .before .before .before .walk .ensures .0 .1, c .enum-told .given .1) refl
+returns c = walk-told walked.Closed (c .enum-told .given .1) (c .before .before .before .before .walk .ensures .0)
 
 same-length-2 : tie.Need-same-length-2
 same-length-2 c = search needs
 
 returns-2 : tie.Need-returns-2
-returns-2 c = rw (← c .before .before .before .before .before .walk .ensures .0 .0, ← c .before .before .before .before .before .walk .ensures .0 .1, c .before .walked .given .1) refl
+returns-2 c = walk-told _ (c .before .walked .given .1) (c .before .before .before .before .before .walk .ensures .0)
 
 same-length-3 : tie.Need-same-length-3
 same-length-3 c = search needs
 
 returns-3 : tie.Need-returns-3
-returns-3 c = rw (← c .before .before .before .before .before .walk .ensures .0 .0, ← c .before .before .before .before .before .walk .ensures .0 .1, c .before .walked2 .given .1) refl
+returns-3 c = walk-told _ (c .before .walked2 .given .1) (c .before .before .before .before .before .walk .ensures .0)
 
 pub jscd-walk-spec : {M : Type 1} → statement M
 jscd-walk-spec =

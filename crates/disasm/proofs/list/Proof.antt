@@ -1,8 +1,9 @@
 use Prim.Native.Nat.{ℕ}
 use mathlib.Core.List.{List}
-use Rattle.disasm.specs.declared.Listed.{Listed}
+use Rattle.text.specs.declared.Written.{Written}
+use Rattle.text.proofs.Numbers.{written-as}
 use Rattle.store.specs.declared.Object.{Object}
-use Rattle.function.specs.Files.{Files}
+use Rattle.function.specs.Files.{filesOf}
 use Rattle.disasm.specs.Listing.{listCall}
 use Rattle.disasm.specs.mirror.Listing.{listSearched}
 use Rattle.disasm.proofs.Searched.{listed-searched}
@@ -38,11 +39,11 @@ returns-2 : tie.Need-returns-2
 unfolding listCall
 returns-2 c =
     let a = c .before .before .before .before .before .before .before .before .before .before .before .before .before .before .before .before .before .args in
-    let f : Files = record { opcodes = now (a .opcodes); types = now (a .types); runtime = now (a .runtime); intrinsic = now (a .intrinsic); layout = now (a .layout); objects = now (a .objects); slots = now (a .slots); payload = now (a .payload) } in
+    let f = filesOf (now (a .opcodes)) (now (a .types)) (now (a .runtime)) (now (a .intrinsic)) (now (a .layout)) (now (a .objects)) (now (a .slots)) (now (a .payload)) in
     let ok = sym (c .before .before .before .before .before .before .before .check-files .ensures) ∙ c .before .before .before .before .before .enum-told .given .1 in
     let e = ap (λ (x : Object). listSearched f x (now (a .out))) (c .before .before .before .object-of .ensures) ∙ listed-searched f (a .object) (now (a .out)) ok in
     let q = c .before .before .list-object .ensures in
-    rw ok (q .0 ∙ ap (λ (x : Listed × List ℕ). x .0) e, q .1 ∙ ap (λ (x : Listed × List ℕ). x .1) e)
+    rw ok (written-as (q .0 ∙ ap (λ (x : Written × List ℕ). x .0) e, q .1 ∙ ap (λ (x : Written × List ℕ). x .1) e))
 
 pub list-spec : {M : Type 1} → statement M
 list-spec =

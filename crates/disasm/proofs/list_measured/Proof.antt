@@ -1,8 +1,8 @@
+use borrow.Author.Needs.{needs}
 use mathlib.Core.Path.{refl}
 use native.Mathlib.Omega.{arith}
 use denote.Ref.{now}
-use Rattle.disasm.proofs.Laws.{pass-refused, pass-short, pass-fits}
-use borrow.Author.Needs.{needs}
+use Rattle.text.proofs.PutText.{fits-then, refused-then}
 use Rattle.disasm.proofs.list_measured.Statement.{statement}
 use Rattle.disasm.proofs.list_measured.Tie as tie
 
@@ -18,12 +18,6 @@ part-put-all-end c = search needs
 put-all-requires : tie.Need-put-all-requires
 put-all-requires c κs = search needs
 
-enum-known-check : tie.Need-enum-known-check
-enum-known-check c = search needs
-
-enum-told : tie.Need-enum-told
-enum-told c = search needs
-
 put-all-requires-2 : tie.Need-put-all-requires-2
 put-all-requires-2 c κs = search needs
 
@@ -31,19 +25,13 @@ same-length : tie.Need-same-length
 same-length c = search needs
 
 returns : tie.Need-returns
-returns c = pass-refused _ _ _ (now (c .before .before .before .before .before .before .before .before .before .before .before .before .before .before .before .before .args .out)) (omega (arith, c .before .before .before .before .before .before .before .before .before .before .before .before .before .before .before .before .good)) (c .before .before .before .before .before .put-all .ensures) refl (c .before .check .given .0 .0) (c .before .check .given .1)
+returns c = fits-then _ (now (c .before .before .before .before .before .before .before .before .before .before .before .before .before .before .before .before .before .before .args .out)) (omega (arith, c .before .before .before .before .before .before .before .before .before .before .before .before .before .before .before .before .before .before .good)) (c .before .before .before .before .before .before .before .put-all .ensures) refl (omega (arith, c .before .before .before .before .if1 .taken)) (c .before .before .put-all2 .ensures)
 
 same-length-2 : tie.Need-same-length-2
 same-length-2 c = search needs
 
 returns-2 : tie.Need-returns-2
-returns-2 c = pass-fits _ _ _ (now (c .before .before .before .before .before .before .before .before .before .before .before .before .before .before .before .before .before .before .before .before .args .out)) (omega (arith, c .before .before .before .before .before .before .before .before .before .before .before .before .before .before .before .before .before .before .before .before .good)) (c .before .before .before .before .before .before .before .before .before .put-all .ensures) refl (c .before .before .before .before .before .enum-told .given .1) (omega (arith, c .before .before .before .before .if1 .taken)) (c .before .before .put-all2 .ensures)
-
-same-length-3 : tie.Need-same-length-3
-same-length-3 c = search needs
-
-returns-3 : tie.Need-returns-3
-returns-3 c = pass-short _ _ _ (now (c .before .before .before .before .before .before .before .before .before .before .before .before .before .before .before .before .args .out)) (omega (arith, c .before .before .before .before .before .before .before .before .before .before .before .before .before .before .before .before .good)) (c .before .before .before .before .before .put-all .ensures) refl (c .before .enum-told .given .1) (omega (arith, c .if1 .left))
+returns-2 c = refused-then _ (now (c .before .before .before .before .before .before .before .before .before .before .before .before .before .before .args .out)) (omega (arith, c .before .before .before .before .before .before .before .before .before .before .before .before .before .before .good)) (c .before .before .before .put-all .ensures) refl (omega (arith, c .if1 .left))
 
 pub list-measured-spec : {M : Type 1} → statement M
 list-measured-spec =
@@ -53,12 +41,8 @@ list-measured-spec =
     part-put-all-start
     part-put-all-end
     put-all-requires
-    enum-known-check
-    enum-told
     put-all-requires-2
     same-length
     returns
     same-length-2
-    returns-2
-    same-length-3
-    returns-3)
+    returns-2)

@@ -1,10 +1,6 @@
-use mathlib.Core.Path.{_∙_}
-use native.Mathlib.Omega.{arith}
-use mir.Facts.{toZ-ofZ}
-use mir.Syntax.{w32}
-use mir.Val.{SFits}
-use Rattle.text.proofs.Put.{then, kept}
 use borrow.Author.Needs.{needs}
+use native.Mathlib.Omega.{arith}
+use Rattle.text.proofs.Put.{then}
 use Rattle.disasm.proofs.put_all.Statement.{statement}
 use Rattle.disasm.proofs.put_all.Tie as tie
 
@@ -18,10 +14,7 @@ same-length : tie.Need-same-length
 same-length c = search needs
 
 returns : tie.Need-returns
-returns c =
-    let f : SFits w32 (c .before .before .before .before .before .before .before .before .before .before .before .before .before .before .before .before .before .before .args .h .«parameter_count») = record { sfits = c .before .before .before .struct-told .given .1 .0 .1 } in
-    let q = simp (toZ-ofZ f) at (c .before .before .put-lines .ensures) in
-    record { checked = q .checked; written = λ ok. then (omega (arith, c .before .before .before .before .before .before .before .before .before .before .before .before .before .before .before .before .before .before .good)) (c .before .before .before .before .before .before .before .put-header .ensures) (q .written ok); kept = q .kept ∙ kept (c .before .before .before .before .before .before .before .put-header .ensures) }
+returns c = then (omega (arith, c .before .before .before .before .before .before .before .before .before .before .before .before .before .before .before .before .before .good)) (c .before .before .before .before .before .before .put-header .ensures) (c .before .before .put-lines .ensures)
 
 pub put-all-spec : {M : Type 1} → statement M
 put-all-spec = tie.close (tie.spec put-header-requires put-lines-requires same-length returns)

@@ -1,7 +1,9 @@
+use mathlib.Core.Path.{ap}
 use denote.Ref.{now}
 use Rattle.store.specs.Records.{objectOf}
 use Rattle.tables.specs.Layout.{layoutOf}
 use Rattle.header.specs.Calls.{headerCall}
+use Rattle.header.specs.Numbers.{headerNumbers}
 use Rattle.header.proofs.Searched.{header-searched, code-ordered}
 use borrow.Author.Needs.{needs}
 use Rattle.header.proofs.header_at.Statement.{statement}
@@ -19,8 +21,8 @@ object-of-requires c κs = search needs
 layout-of-requires : tie.Need-layout-of-requires
 layout-of-requires c κs = search needs
 
-header-of-requires : tie.Need-header-of-requires
-header-of-requires c κs = search needs
+header-at-unchecked-requires : tie.Need-header-at-unchecked-requires
+header-at-unchecked-requires c κs = search needs
 
 enum-known-refusal : tie.Need-enum-known-refusal
 enum-known-refusal c = search needs
@@ -36,7 +38,7 @@ returns c =
       ← header-searched (now (a .slots)) (now (a .payload)) (objectOf (now (a .objects)) (a .object)) (layoutOf (now (a .layout))) ordered,
       ← c .before .before .object-of .ensures,
       ← c .before .layout-of .ensures,
-    ) (c .header-of .ensures)
+    ) (ap headerNumbers (c .header-at-unchecked .ensures))
 
 returns-2 : tie.Need-returns-2
 unfolding headerCall
@@ -50,7 +52,7 @@ header-at-spec =
     enum-told
     object-of-requires
     layout-of-requires
-    header-of-requires
+    header-at-unchecked-requires
     enum-known-refusal
     returns
     returns-2)

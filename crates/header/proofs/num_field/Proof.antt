@@ -3,10 +3,10 @@ use denote.Ref.{now}
 use Rattle.store.specs.Records.{objectOf}
 use Rattle.serializer.proofs.Checked.{answer-ordered}
 use Rattle.header.specs.Calls.{numCall}
+use Rattle.header.specs.Numbers.{numNumbers}
 use Rattle.header.proofs.Searched.{num-searched}
 use borrow.Author.Needs.{needs}
 use Rattle.header.proofs.num_field.Statement.{statement}
-use Rattle.header.specs.declared.NumAnswer.the-variants as num-answer
 use Rattle.header.proofs.num_field.Tie as tie
 
 check-at-requires : tie.Need-check-at-requires
@@ -18,8 +18,8 @@ enum-told c = search needs
 object-of-requires : tie.Need-object-of-requires
 object-of-requires c κs = search needs
 
-num-field-of-requires : tie.Need-num-field-of-requires
-num-field-of-requires c κs = search needs
+num-field-unchecked-requires : tie.Need-num-field-unchecked-requires
+num-field-unchecked-requires c κs = search needs
 
 enum-known-refusal : tie.Need-enum-known-refusal
 enum-known-refusal c = search needs
@@ -35,7 +35,7 @@ returns c =
       c .before .before .enum-told .given .1,
       ← num-searched (now (a .slots)) (o .first) (o .count) ordered (now (a .payload)) (a .ts) (a .slot) (a .flags-smi),
       ← c .before .object-of .ensures,
-    ) (ap num-answer.Num (c .num-field-of .ensures))
+    ) (ap numNumbers (c .num-field-unchecked .ensures))
 
 returns-2 : tie.Need-returns-2
 unfolding numCall
@@ -48,7 +48,7 @@ num-field-spec =
     check-at-requires
     enum-told
     object-of-requires
-    num-field-of-requires
+    num-field-unchecked-requires
     enum-known-refusal
     returns
     returns-2)

@@ -2,14 +2,14 @@ use borrow.Author.Needs.{needs}
 use Rattle.header.proofs.raw_from.Statement.{statement}
 use Rattle.header.proofs.raw_from.Tie as tie
 
-rt-off-requires : tie.Need-rt-off-requires
-rt-off-requires c κs = search needs
+bca-rt-off-unchecked-requires : tie.Need-bca-rt-off-unchecked-requires
+bca-rt-off-unchecked-requires c κs = search needs
 
-raw-place-requires : tie.Need-raw-place-requires
-raw-place-requires c κs = search needs
+raw-at-unchecked-requires : tie.Need-raw-at-unchecked-requires
+raw-at-unchecked-requires c κs = search needs
 
 returns : tie.Need-returns
-returns c = rw (← c .before .rt-off .ensures) (c .raw-place .ensures)
+returns c = rw (← c .before .bca-rt-off-unchecked .ensures) (c .raw-at-unchecked .ensures)
 
 pub raw-from-spec : {M : Type 1} → statement M
-raw-from-spec = tie.close (tie.spec rt-off-requires raw-place-requires returns)
+raw-from-spec = tie.close (tie.spec bca-rt-off-unchecked-requires raw-at-unchecked-requires returns)

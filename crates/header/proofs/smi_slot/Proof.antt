@@ -1,12 +1,12 @@
 use mathlib.Core.Path.{ap}
 use denote.Ref.{now}
 use Rattle.store.specs.Records.{objectOf}
+use Rattle.serializer.specs.Numbers.{smiNumbers}
 use Rattle.serializer.proofs.Checked.{answer-ordered}
 use Rattle.header.specs.Calls.{smiCall}
 use Rattle.header.proofs.Searched.{smi-searched}
 use borrow.Author.Needs.{needs}
 use Rattle.header.proofs.smi_slot.Statement.{statement}
-use Rattle.header.specs.declared.SmiAnswer.the-variants as smi-answer
 use Rattle.header.proofs.smi_slot.Tie as tie
 
 check-at-requires : tie.Need-check-at-requires
@@ -18,8 +18,8 @@ enum-told c = search needs
 object-of-requires : tie.Need-object-of-requires
 object-of-requires c κs = search needs
 
-smi-slot-of-requires : tie.Need-smi-slot-of-requires
-smi-slot-of-requires c κs = search needs
+smi-slot-unchecked-requires : tie.Need-smi-slot-unchecked-requires
+smi-slot-unchecked-requires c κs = search needs
 
 enum-known-refusal : tie.Need-enum-known-refusal
 enum-known-refusal c = search needs
@@ -35,7 +35,7 @@ returns c =
       c .before .before .enum-told .given .1,
       ← smi-searched (now (a .slots)) (o .first) (o .count) ordered (now (a .payload)) (a .ts) (a .slot),
       ← c .before .object-of .ensures,
-    ) (ap smi-answer.Smi (c .smi-slot-of .ensures))
+    ) (ap smiNumbers (c .smi-slot-unchecked .ensures))
 
 returns-2 : tie.Need-returns-2
 unfolding smiCall
@@ -48,7 +48,7 @@ smi-slot-spec =
     check-at-requires
     enum-told
     object-of-requires
-    smi-slot-of-requires
+    smi-slot-unchecked-requires
     enum-known-refusal
     returns
     returns-2)

@@ -1,9 +1,10 @@
 use Prim.Native.Nat.{ℕ}
 use mathlib.Core.Path.{sym, ap, _∙_}
-use mathlib.Core.List.{[]}
 use denote.Ref.{now}
+use Rattle.flow.specs.Opcodes.{opcodesOf}
 use Rattle.tables.specs.declared.Layout.{Layout}
-use Rattle.function.specs.Files.{Files}
+use Rattle.function.specs.Files.{lentFiles}
+use Rattle.jumps.specs.Numbers.{entryNumbers}
 use Rattle.serializer.specs.declared.Elem.{Elem}
 use Rattle.decoder.specs.declared.Decoded.{Decoded}
 use Rattle.targets.specs.declared.Pool.{Pool}
@@ -34,8 +35,8 @@ layout-of-requires c κs = search needs
 lent-pool-requires : tie.Need-lent-pool-requires
 lent-pool-requires c κs = search needs
 
-decode-with-requires : tie.Need-decode-with-requires
-decode-with-requires c κs = search needs
+decode-unchecked-requires : tie.Need-decode-unchecked-requires
+decode-unchecked-requires c κs = search needs
 
 table-of-requires : tie.Need-table-of-requires
 table-of-requires c κs = search needs
@@ -54,21 +55,22 @@ returns-2 : tie.Need-returns-2
 unfolding entryCall tableCall
 returns-2 c =
     let a = c .before .before .before .before .before .before .before .before .before .before .before .before .before .before .before .before .before .args in
-    let f : Files = record { opcodes = now (a .opcodes); types = now (a .types); runtime = []; intrinsic = []; layout = now (a .layout); objects = now (a .objects); slots = now (a .slots); payload = now (a .payload) } in
+    let f = lentFiles (now (a .opcodes)) (now (a .types)) (now (a .layout)) (now (a .objects)) (now (a .slots)) (now (a .payload)) in
     let w = a .object in
     let ok = sym (c .before .before .before .before .before .before .before .before .before .check-lent .ensures) ∙ c .before .before .before .before .before .before .before .enum-told .given .1 in
     let p = c .before .before .before .before .before .lent-pool .ensures ∙ ap (λ (x : Layout). lentFound (f .objects) (f .slots) x w) (c .before .before .before .before .before .before .layout-of .ensures) in
-    let decoded = c .before .before .before .before .decode-with .ensures in
+    let decoded = c .before .before .before .before .decode-unchecked .ensures in
     let t = c .before .before .before .table-of .ensures
-    ∙ ap (λ (x : Pool). tableOf (f .opcodes) (found x) (c .before .before .before .before .decode-with .result) (a .at)) (lent-pool f w (now (a .code)) ok p)
-    ∙ ap (λ (x : Decoded). tableOf (f .opcodes) (found (lentPool f w)) x (a .at)) decoded in
+    ∙ ap (λ (x : Pool). tableOf (opcodesOf (f .opcodes)) (found x) (c .before .before .before .before .decode-unchecked .result) (a .at)) (lent-pool f w (now (a .code)) ok p)
+    ∙ ap (λ (x : Decoded). tableOf (opcodesOf (f .opcodes)) (found (lentPool f w)) x (a .at)) decoded in
     let from = c .before .here .ensures ∙ ap (λ (x : Decoded). here (x .instr)) decoded in
     rw ok
+    (ap (entryNumbers (a .at))
     (c .entry-of .ensures
     ∙ ap (λ (x : Layout). entryOf (poolSearched (f .slots) (f .payload) (x .«tagged_size») (c .before .before .before .before .before .lent-pool .result)) (c .before .here .result) (c .before .before .before .table-of .result) (a .k)) (c .before .before .before .before .before .before .layout-of .ensures)
     ∙ ap (λ (x : ℕ → Elem). entryOf x (c .before .here .result) (c .before .before .before .table-of .result) (a .k)) (lent-elems f w (now (a .code)) ok p)
     ∙ ap (λ (x : ℕ). entryOf (lentElem f w) x (c .before .before .before .table-of .result) (a .k)) from
-    ∙ ap (λ (x : TableAnswer). entryOf (lentElem f w) (here (decodedAt f (now (a .code)) (a .at) .instr)) x (a .k)) t)
+    ∙ ap (λ (x : TableAnswer). entryOf (lentElem f w) (here (decodedAt f (now (a .code)) (a .at) .instr)) x (a .k)) t))
 
 pub jump-entry-spec : {M : Type 1} → statement M
 jump-entry-spec =
@@ -79,7 +81,7 @@ jump-entry-spec =
     enum-told
     layout-of-requires
     lent-pool-requires
-    decode-with-requires
+    decode-unchecked-requires
     table-of-requires
     here-requires
     entry-of-requires

@@ -1,8 +1,9 @@
 use mathlib.Core.Path.{sym, ap, _∙_}
-use mathlib.Core.List.{[]}
 use denote.Ref.{now}
+use Rattle.flow.specs.Opcodes.{opcodesOf}
 use Rattle.tables.specs.declared.Layout.{Layout}
-use Rattle.function.specs.Files.{Files}
+use Rattle.function.specs.Files.{lentFiles}
+use Rattle.jumps.specs.Numbers.{tableNumbers}
 use Rattle.decoder.specs.declared.Decoded.{Decoded}
 use Rattle.targets.specs.declared.Pool.{Pool}
 use Rattle.targets.specs.Targets.{found}
@@ -29,8 +30,8 @@ layout-of-requires c κs = search needs
 lent-pool-requires : tie.Need-lent-pool-requires
 lent-pool-requires c κs = search needs
 
-decode-with-requires : tie.Need-decode-with-requires
-decode-with-requires c κs = search needs
+decode-unchecked-requires : tie.Need-decode-unchecked-requires
+decode-unchecked-requires c κs = search needs
 
 table-of-requires : tie.Need-table-of-requires
 table-of-requires c κs = search needs
@@ -42,14 +43,15 @@ returns c = rw (← c .before .before .before .check-lent .ensures, c .before .r
 returns-2 : tie.Need-returns-2
 unfolding tableCall
 returns-2 c = let a = c .before .before .before .before .before .before .before .before .before .before .before .before .before .before .args in
-    let f : Files = record { opcodes = now (a .opcodes); types = now (a .types); runtime = []; intrinsic = []; layout = now (a .layout); objects = now (a .objects); slots = now (a .slots); payload = now (a .payload) } in
+    let f = lentFiles (now (a .opcodes)) (now (a .types)) (now (a .layout)) (now (a .objects)) (now (a .slots)) (now (a .payload)) in
     let ok = sym (c .before .before .before .before .before .before .check-lent .ensures) ∙ c .before .before .before .before .enum-told .given .1 in
     let p = c .before .before .lent-pool .ensures ∙ ap (λ (x : Layout). lentFound (f .objects) (f .slots) x (a .object)) (c .before .before .before .layout-of .ensures) in
-    let d = c .before .decode-with .result in
+    let d = c .before .decode-unchecked .result in
     rw ok
+    (ap (tableNumbers (a .at))
     (c .table-of .ensures
-    ∙ ap (λ (x : Pool). tableOf (f .opcodes) (found x) d (a .at)) (lent-pool f (a .object) (now (a .code)) ok p)
-    ∙ ap (λ (x : Decoded). tableOf (f .opcodes) (found (lentPool f (a .object))) x (a .at)) (c .before .decode-with .ensures))
+    ∙ ap (λ (x : Pool). tableOf (opcodesOf (f .opcodes)) (found x) d (a .at)) (lent-pool f (a .object) (now (a .code)) ok p)
+    ∙ ap (λ (x : Decoded). tableOf (opcodesOf (f .opcodes)) (found (lentPool f (a .object))) x (a .at)) (c .before .decode-unchecked .ensures)))
 
 pub jump-table-spec : {M : Type 1} → statement M
 jump-table-spec =
@@ -60,7 +62,7 @@ jump-table-spec =
     enum-told
     layout-of-requires
     lent-pool-requires
-    decode-with-requires
+    decode-unchecked-requires
     table-of-requires
     returns
     returns-2)

@@ -1,9 +1,10 @@
 use Prim.Native.Nat.{ℕ}
 use mathlib.Core.Path.{sym, ap, _∙_}
-use mathlib.Core.List.{[]}
 use denote.Ref.{now}
+use Rattle.flow.specs.Opcodes.{opcodesOf}
 use Rattle.tables.specs.declared.Layout.{Layout}
-use Rattle.function.specs.Files.{Files}
+use Rattle.function.specs.Files.{lentFiles}
+use Rattle.jumps.specs.Numbers.{targetNumbers}
 use Rattle.serializer.specs.declared.Elem.{Elem}
 use Rattle.targets.specs.mirror.Search.{poolSearched}
 use Rattle.function.specs.mirror.Pool.{lentFound}
@@ -29,8 +30,8 @@ layout-of-requires c κs = search needs
 lent-pool-requires : tie.Need-lent-pool-requires
 lent-pool-requires c κs = search needs
 
-decode-with-requires : tie.Need-decode-with-requires
-decode-with-requires c κs = search needs
+decode-unchecked-requires : tie.Need-decode-unchecked-requires
+decode-unchecked-requires c κs = search needs
 
 target-of-requires : tie.Need-target-of-requires
 target-of-requires c κs = search needs
@@ -42,17 +43,18 @@ returns c = rw (← c .before .before .before .check-lent .ensures, c .before .r
 returns-2 : tie.Need-returns-2
 unfolding targetCall
 returns-2 c = let a = c .before .before .before .before .before .before .before .before .before .before .before .before .before .before .args in
-    let f : Files = record { opcodes = now (a .opcodes); types = now (a .types); runtime = []; intrinsic = []; layout = now (a .layout); objects = now (a .objects); slots = now (a .slots); payload = now (a .payload) } in
+    let f = lentFiles (now (a .opcodes)) (now (a .types)) (now (a .layout)) (now (a .objects)) (now (a .slots)) (now (a .payload)) in
     let ok = sym (c .before .before .before .before .before .before .check-lent .ensures) ∙ c .before .before .before .before .enum-told .given .1 in
     let p = c .before .before .lent-pool .ensures ∙ ap (λ (x : Layout). lentFound (f .objects) (f .slots) x (a .object)) (c .before .before .before .layout-of .ensures) in
     let el = lent-elems f (a .object) (now (a .code)) ok p in
     let pool = c .before .before .lent-pool .result in
-    let d = c .before .decode-with .result in
+    let d = c .before .decode-unchecked .result in
     rw ok
+    (ap (targetNumbers (a .at))
     (c .target-of .ensures
-    ∙ ap (λ (x : Layout). targetOf (f .opcodes) (poolSearched (f .slots) (f .payload) (x .«tagged_size») pool) d) (c .before .before .before .layout-of .ensures)
-    ∙ ap (λ (x : ℕ → Elem). targetOf (f .opcodes) x d) el
-    ∙ ap (targetOf (f .opcodes) (lentElem f (a .object))) (c .before .decode-with .ensures))
+    ∙ ap (λ (x : Layout). targetOf (opcodesOf (f .opcodes)) (poolSearched (f .slots) (f .payload) (x .«tagged_size») pool) d) (c .before .before .before .layout-of .ensures)
+    ∙ ap (λ (x : ℕ → Elem). targetOf (opcodesOf (f .opcodes)) x d) el
+    ∙ ap (targetOf (opcodesOf (f .opcodes)) (lentElem f (a .object))) (c .before .decode-unchecked .ensures)))
 
 pub jump-target-spec : {M : Type 1} → statement M
 jump-target-spec =
@@ -63,7 +65,7 @@ jump-target-spec =
     enum-told
     layout-of-requires
     lent-pool-requires
-    decode-with-requires
+    decode-unchecked-requires
     target-of-requires
     returns
     returns-2)

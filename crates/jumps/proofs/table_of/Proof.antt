@@ -15,8 +15,8 @@ enum-told-2 c = search needs
 flow-of-requires : tie.Need-flow-of-requires
 flow-of-requires c κs = search needs
 
-jump-table-requires : tie.Need-jump-table-requires
-jump-table-requires c κs = search needs
+jump-table-unchecked-requires : tie.Need-jump-table-unchecked-requires
+jump-table-unchecked-requires c κs = search needs
 
 table-told-requires : tie.Need-table-told-requires
 table-told-requires c κs = search needs
@@ -31,7 +31,7 @@ returns-2 c = rw (c .before .outcome .given .1)
 
 returns-3 : tie.Need-returns-3
 unfolding tableOf
-returns-3 c = rw (c .before .before .before .enum-told2 .given .1, ← c .before .before .flow-of .ensures, ← c .before .jump-table .ensures) (c .table-told .ensures)
+returns-3 c = rw (c .before .before .before .enum-told2 .given .1, ← c .before .before .flow-of .ensures, ← c .before .jump-table-unchecked .ensures) (c .table-told .ensures)
 
 pub table-of-spec : {M : Type 1} → statement M
 table-of-spec =
@@ -41,7 +41,7 @@ table-of-spec =
     enum-known-outcome
     enum-told-2
     flow-of-requires
-    jump-table-requires
+    jump-table-unchecked-requires
     table-told-requires
     returns
     returns-2

@@ -15,8 +15,8 @@ enum-told-2 c = search needs
 flow-of-requires : tie.Need-flow-of-requires
 flow-of-requires c κs = search needs
 
-jump-target-requires : tie.Need-jump-target-requires
-jump-target-requires c κs = search needs
+jump-target-unchecked-requires : tie.Need-jump-target-unchecked-requires
+jump-target-unchecked-requires c κs = search needs
 
 target-told-requires : tie.Need-target-told-requires
 target-told-requires c κs = search needs
@@ -31,7 +31,7 @@ returns-2 c = rw (c .before .outcome .given .1)
 
 returns-3 : tie.Need-returns-3
 unfolding targetOf
-returns-3 c = rw (c .before .before .before .enum-told2 .given .1, ← c .before .before .flow-of .ensures, ← c .before .jump-target .ensures) (c .target-told .ensures)
+returns-3 c = rw (c .before .before .before .enum-told2 .given .1, ← c .before .before .flow-of .ensures, ← c .before .jump-target-unchecked .ensures) (c .target-told .ensures)
 
 pub target-of-spec : {M : Type 1} → statement M
 target-of-spec =
@@ -41,7 +41,7 @@ target-of-spec =
     enum-known-outcome
     enum-told-2
     flow-of-requires
-    jump-target-requires
+    jump-target-unchecked-requires
     target-told-requires
     returns
     returns-2

@@ -1,5 +1,4 @@
 use native.Mathlib.Omega.{arith}
-use mir.Facts.{toZ-ofZ}
 use Rattle.text.proofs.Put.{then, kept}
 use Rattle.lines.specs.Line.{lineBy}
 use borrow.Author.Needs.{needs}
@@ -15,14 +14,14 @@ instr-name-requires c κs = search needs
 put-operands-requires : tie.Need-put-operands-requires
 put-operands-requires c κs = search needs
 
-jump-target-requires : tie.Need-jump-target-requires
-jump-target-requires c κs = search needs
+jump-target-unchecked-requires : tie.Need-jump-target-unchecked-requires
+jump-target-unchecked-requires c κs = search needs
 
 put-target-requires : tie.Need-put-target-requires
 put-target-requires c κs = search needs
 
-jump-table-requires : tie.Need-jump-table-requires
-jump-table-requires c κs = search needs
+jump-table-unchecked-requires : tie.Need-jump-table-unchecked-requires
+jump-table-unchecked-requires c κs = search needs
 
 here-requires : tie.Need-here-requires
 here-requires c κs = search needs
@@ -37,9 +36,9 @@ returns : tie.Need-returns
 unfolding lineBy
 returns c =
     let h = c .before .before .before .before .before .before .before .before .before .before .before .before .before .before .before .before .before .before .before .before .before .before .before .before .before .before .before .before .before .before .before .before .before .before .before .good in
-    rw (← c .before .before .before .before .before .before .before .before .before .before .before .before .before .before .jump-target .ensures, ← c .before .before .before .before .before .before .before .before .before .jump-table .ensures, ← c .before .before .before .before .before .before .before .before .here .ensures)
+    rw (← c .before .before .before .before .before .before .before .before .before .before .before .before .before .before .jump-target-unchecked .ensures, ← c .before .before .before .before .before .before .before .before .before .jump-table-unchecked .ensures, ← c .before .before .before .before .before .before .before .before .here .ensures)
     (then (omega (arith, h)) (then (omega (arith, h)) (then (omega (arith, h)) (then (omega (arith, h)) (then (omega (arith, h))
-    (c .before .before .before .before .before .before .before .before .before .before .before .before .before .before .before .before .before .before .before .before .before .before .before .before .before .put-place .ensures) (c .before .before .before .before .before .before .before .before .before .before .before .before .before .before .before .before .before .before .before .before .before .instr-name .ensures)) (simp (toZ-ofZ (c .before .before .before .before .before .before .before .before .before .before .before .before .before .before .before .before .before .before .before .before .before .before .before .before .before .before .before .before .before .before .before .before .before .before .before .fits .params)) at (c .before .before .before .before .before .before .before .before .before .before .before .before .before .before .before .before .before .put-operands .ensures))) (c .before .before .before .before .before .before .before .before .before .before .before .before .put-target .ensures)) (c .before .before .before .before .before .before .put-table .ensures)) (c .before .before .put-byte .ensures))
+    (c .before .before .before .before .before .before .before .before .before .before .before .before .before .before .before .before .before .before .before .before .before .before .before .before .before .put-place .ensures) (c .before .before .before .before .before .before .before .before .before .before .before .before .before .before .before .before .before .before .before .before .before .instr-name .ensures)) (c .before .before .before .before .before .before .before .before .before .before .before .before .before .before .before .before .before .put-operands .ensures)) (c .before .before .before .before .before .before .before .before .before .before .before .before .put-target .ensures)) (c .before .before .before .before .before .before .put-table .ensures)) (c .before .before .put-byte .ensures))
 
 same-length : tie.Need-same-length
 same-length c = kept (returns c)
@@ -51,9 +50,9 @@ put-line-spec =
     put-place-requires
     instr-name-requires
     put-operands-requires
-    jump-target-requires
+    jump-target-unchecked-requires
     put-target-requires
-    jump-table-requires
+    jump-table-unchecked-requires
     here-requires
     put-table-requires
     put-byte-requires

@@ -1,5 +1,6 @@
 use mathlib.Core.Path.{refl, sym, _∙_}
 use denote.Ref.{now}
+use Rattle.text.proofs.Numbers.{written-by}
 use Rattle.function.specs.Files.{Files}
 use Rattle.program.specs.Printed.{limited}
 use Rattle.program.proofs.Laws.{within}
@@ -20,7 +21,7 @@ returns : tie.Need-returns
 returns c =
     let a = c .before .before .before .before .before .before .before .before .before .before .before .before .before .before .before .args in
     let f : Files = record { opcodes = now (a .opcodes); types = now (a .types); runtime = now (a .runtime); intrinsic = now (a .intrinsic); layout = now (a .layout); objects = now (a .objects); slots = now (a .slots); payload = now (a .payload) } in
-    rw (within f (now (a .out)) (sym (c .before .before .before .before .before .within-limit .ensures) ∙ c .before .before .before .before .if1 .taken)) (c .before .before .list .ensures)
+    rw (within f (now (a .out)) (sym (c .before .before .before .before .before .within-limit .ensures) ∙ c .before .before .before .before .if1 .taken)) (written-by (c .before .before .list .ensures))
 
 check-table-requires : tie.Need-check-table-requires
 check-table-requires c κs = search needs

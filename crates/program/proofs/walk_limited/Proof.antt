@@ -4,6 +4,7 @@ use Prim.Native.Nat.{ℕ}
 use denote.Ref.{now}
 use Rattle.function.specs.Files.{Files}
 use Rattle.walk.specs.declared.Walked.{Walked}
+use Rattle.walk.proofs.Numbers.{walked-one}
 use Rattle.program.proofs.Laws.{walk-within, walk-blind, walk-beyond, walk-refused}
 use borrow.Author.Needs.{needs}
 use Rattle.program.proofs.walk_limited.Statement.{statement}
@@ -22,7 +23,7 @@ returns : tie.Need-returns
 returns c =
     let a = c .before .before .before .before .before .before .before .before .before .before .before .before .before .before .before .args in
     let f : Files = record { opcodes = now (a .opcodes); types = now (a .types); runtime = now (a .runtime); intrinsic = now (a .intrinsic); layout = now (a .layout); objects = now (a .objects); slots = now (a .slots); payload = now (a .payload) } in
-    c .before .before .walk .ensures .0 .0 ∙ sym (ap (λ (x : Walked × List ℕ). x .0) (walk-within f (now (a .marks)) (sym (c .before .before .before .before .before .within-limit .ensures) ∙ c .before .before .before .before .if1 .taken))) ∙ walk-blind f (now (a .marks)) _ refl
+    walked-one _ _ (c .before .before .walk .ensures .0 .0) ∙ sym (ap (λ (x : Walked × List ℕ). x .0) (walk-within f (now (a .marks)) (sym (c .before .before .before .before .before .within-limit .ensures) ∙ c .before .before .before .before .if1 .taken))) ∙ walk-blind f (now (a .marks)) _ refl
 
 check-table-requires : tie.Need-check-table-requires
 check-table-requires c κs = search needs

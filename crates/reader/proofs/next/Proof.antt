@@ -44,6 +44,7 @@ use denote.Triple.Table.{entered, cited}
 use denote.Triple.Walked.{says, Stays, stay-ref, walkOf, goes-ref, Walks, ends-at, walked, walk-meets}
 use denote.Triple.Clauses.{ensured, lasts}
 use Rattle.reader.specs.Reading.{readAt, nextAt}
+use Rattle.reader.specs.Numbers.{readNumbers}
 use Rattle.reader.specs.declared.SlotReader.{SlotReader}
 use Rattle.reader.specs.declared.Read.{Read}
 use Rattle.reader.proofs.next_at.Symbol.{name as #reader·next-at}
@@ -166,7 +167,7 @@ module _ {M : Type 1} (𝓤 : URA M) (H : Heap 𝓤) (A : Atoms 𝓤) (W : Given
   exits : (n : ℕ) (t : Read) (u : Val) → Moves n → Finds t → ent 𝓤 (⋆ 𝓤 H A (‵ (fobs γ (R .coded .code (moved n))) ∷ ‵ (fbor κ (Body (mem R) b o γ)) ∷ ‵ (flft κ q) ∷ (‵ Token ⊛ ‵ ftrue) ∷ ‵ (S.the-row .own t (u ∷ [])) ∷ [])) (Post u)
   exits n t u e e′ =
       qed W (‵ (fobs γ (R .coded .code (moved n))) ∷ ‵ (fbor κ (Body (mem R) b o γ)) ∷ ‵ (flft κ q) ∷ (‵ Token ⊛ ‵ ftrue) ∷ ‵ (S.the-row .own t (u ∷ [])) ∷ []) ∵
-      suffices ! _ (ends-at 𝓤 H A next.ended stayed (next.clauses 𝓤 H A at-mem run) W (((κ, (κ′, tt)), (q, (q′, tt)), bounds, x, at), tt) u t (moved n, tt) (tt, tt)) $ says ! (e′, (refl, e)) $
+      suffices ! _ (ends-at 𝓤 H A next.ended stayed (next.clauses 𝓤 H A at-mem run) W (((κ, (κ′, tt)), (q, (q′, tt)), bounds, x, at), tt) u t (moved n, tt) (tt, tt)) $ says ! (ap (readNumbers (h .at)) e′, refl, e) $
       move ! (2 ∷ 3 ∷ []) $ join ! $ frame ! $ feqI ! (List Val) (vptr b o ∷ []) (vptr b o ∷ []) refl $ fjoin3 ! $ nothing ! $ move ! (1 ∷ 0 ∷ []) $ fjoin ! $ done !
 
   -- what whoever holds the struct knows of it

@@ -46,7 +46,8 @@ use denote.Triple.Table.{entered, cited}
 use denote.Triple.Walked.{says, Stays, stay-none, stay-none-slice, walkOf, goes-none, goes-none-slice, Walks, ends-at, walked, walk-meets}
 use denote.Exit.{yes}
 use denote.Triple.Clauses.{ensured, lasts}
-use Rattle.reader.specs.Reading.{readAt, nextAt, stepAt}
+use Rattle.reader.specs.Reading.{readAt, nextAt}
+use Rattle.reader.specs.Numbers.{readNumbers}
 use Rattle.reader.specs.declared.SlotReader.{SlotReader}
 use Rattle.reader.specs.declared.Read.{Read}
 use Rattle.reader.specs.declared.Stepped.{Stepped}
@@ -164,7 +165,7 @@ module _ {M : Type 1} (𝓤 : URA M) (H : Heap 𝓤) (A : Atoms 𝓤) (W : Given
       move ! (3 ∷ 0 ∷ []) $ join ! $ move ! (2 ∷ 0 ∷ []) $ join ! $ join ! $ frame ! $ done !
 
   abbrev Moves : Read → SlotReader → Type 0
-  Moves t z = (t ≡ readAt (now s) n) × ((z .slots ≡ s) × (z .at ≡ nextAt (now s) n))
+  Moves t z = (readNumbers n t ≡ readNumbers n (readAt (now s) n)) × (z .slots ≡ s) × (z .at ≡ nextAt (now s) n)
 
   -- the result: its machine value, and what it owns of what was read, whose machine value is w, and of the number
   abbrev result : Read → ℕ → Stepped
@@ -176,7 +177,10 @@ module _ {M : Type 1} (𝓤 : URA M) (H : Heap 𝓤) (A : Atoms 𝓤) (W : Given
   abbrev had : Read → ℕ → List Val × (List Val × Unit {0}) → Fml
   had t m vss = fsep (S.the-row .own t (vss .0)) (fsep (usize .own m (vss .1 .0)) ftrue)
 
-  exits : (t : Stepped) (u : Val) → t ≡ stepAt (now s) n → ent 𝓤 (⋆ 𝓤 H A (‵ (P.the-row .own t (u ∷ [])) ∷ (‵ (flft κ q) ⊛ ‵ ftrue) ∷ ‵ Own ∷ [])) (Post u)
+  abbrev Steps : Stepped → Type 0
+  Steps t = (readNumbers n (t .read) ≡ readNumbers n (readAt (now s) n)) × (t .at ≡ nextAt (now s) n)
+
+  exits : (t : Stepped) (u : Val) → Steps t → ent 𝓤 (⋆ 𝓤 H A (‵ (P.the-row .own t (u ∷ [])) ∷ (‵ (flft κ q) ⊛ ‵ ftrue) ∷ ‵ Own ∷ [])) (Post u)
   exits t u e =
       qed W (‵ (P.the-row .own t (u ∷ [])) ∷ (‵ (flft κ q) ⊛ ‵ ftrue) ∷ ‵ Own ∷ []) ∵
       suffices ! _ (ends-at 𝓤 H A step.ended stayed (step.clauses 𝓤 H A at-mem run) W (((κ, tt), (q, tt), tt, (s, (n, tt)), at), tt) u t (tt, (tt, tt)) (tt, (tt, tt))) $ says ! e $
@@ -226,7 +230,7 @@ module _ {M : Type 1} (𝓤 : URA M) (H : Heap 𝓤) (A : Atoms 𝓤) (W : Given
         -- [the result; _3; the token; true; true; what s owns; _7; …; _6; …; _5; …; _4; …; _3's end; _2; …; _1; …; _0; …]
         returns ! (look ! 19 refl) $ forget ! 6 refl $ forget ! 8 refl $ forget ! 10 refl $ forget ! 12 refl $ forget ! 1 refl $ forget ! 15 refl $ forget ! 17 refl $ forget ! 19 refl $
         move ! (19 ∷ 20 ∷ []) $ free1 ! $ move ! (17 ∷ 18 ∷ []) $ free1 ! $ move ! (15 ∷ 16 ∷ []) $ free1 ! $ move ! (1 ∷ 14 ∷ []) $ free1 ! $ move ! (11 ∷ 12 ∷ []) $ free1 ! $ move ! (9 ∷ 10 ∷ []) $ free1 ! $ move ! (7 ∷ 8 ∷ []) $ free1 ! $ move ! (5 ∷ 6 ∷ []) $ free1 ! $ free0 ! $
-        keep ! (0 ∷ 1 ∷ 4 ∷ []) $ by ! (exits (result t (zs .0 .at)) (mach w (zs .0 .at)) (λ i. record { read = e′ .0 i; at = e′ .1 .1 i })))))))))))))))))))))))
+        keep ! (0 ∷ 1 ∷ 4 ∷ []) $ by ! (exits (result t (zs .0 .at)) (mach w (zs .0 .at)) (e′ .0, e′ .2)))))))))))))))))))))))
 
 module _ {M : Type 1} (𝓤 : URA M) (H : Heap 𝓤) (A : Atoms 𝓤) (W : Given 𝓤 H A) (mem : Memory → SProp 𝓤) (run : Routine → Fun 𝓤) where
   step-walks : (C : Calls 𝓤 H) (Λ : Loops 𝓤 H) → FmC 𝓤 H (W .laws) C → Triple 𝓤 (C #reader·new) (New 𝓤 H A mem run) → Triple 𝓤 (C #reader·next) (Next 𝓤 H A mem run)

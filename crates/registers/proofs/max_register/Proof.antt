@@ -46,6 +46,7 @@ use denote.Exit.{yes}
 use denote.Triple.Clauses.{ensured, lasts}
 use Rattle.decoder.specs.Head.{blank}
 use Rattle.registers.specs.Registers.{withInstr, withInstrs, maxRegister}
+use Rattle.registers.specs.Numbers.{largestNumbers}
 use Rattle.registers.proofs.Laws.{instrs-more}
 use Rattle.decoder.specs.declared.Instr.{Instr}
 use Rattle.registers.specs.declared.Largest.{Largest}
@@ -139,7 +140,7 @@ module _ {M : Type 1} (𝓤 : URA M) (H : Heap 𝓤) (A : Atoms 𝓤) (W : Given
   exits : (d : Largest) (u : Val) → d ≡ maxRegister ys → Is E.the-row d (u ∷ []) → ent 𝓤 (⋆ 𝓤 H A (‵ (flft κ q) ∷ ‵ Own ∷ [])) (Post u)
   exits d u e is =
       qed W (‵ (flft κ q) ∷ ‵ Own ∷ []) ∵
-      suffices ! _ (ends-at 𝓤 H A largest.ended stayed (largest.clauses 𝓤 H A mem run) W (((κ, tt), (q, tt), tt, (s, tt), at), tt) u d (tt, tt) (tt, tt)) $ says ! e $
+      suffices ! _ (ends-at 𝓤 H A largest.ended stayed (largest.clauses 𝓤 H A mem run) W (((κ, tt), (q, tt), tt, (s, tt), at), tt) u d (tt, tt) (tt, tt)) $ says ! (ap largestNumbers e) $
       nothing ! $ move ! (1 ∷ 0 ∷ []) $ join ! $ frame ! $ nothing ! $ move ! (1 ∷ 0 ∷ []) $ fjoin ! $ frame ! $
       owned ! E.the-row (Is E.the-row) (EL.makes E.the-type E′.the-plain 𝓤 H A) d (u ∷ []) is $ done !
 

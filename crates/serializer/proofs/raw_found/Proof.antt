@@ -16,8 +16,8 @@ enum-told c = search needs
 object-of-requires : tie.Need-object-of-requires
 object-of-requires c κs = search needs
 
-raw-place-requires : tie.Need-raw-place-requires
-raw-place-requires c κs = search needs
+raw-at-unchecked-requires : tie.Need-raw-at-unchecked-requires
+raw-at-unchecked-requires c κs = search needs
 
 raw-answer-requires : tie.Need-raw-answer-requires
 raw-answer-requires c κs = search needs
@@ -30,7 +30,7 @@ unfolding rawCall
 returns c =
     let a = c .before .before .before .before .before .before .before .before .before .args in
     let o = objectOf (now (a .objects)) (a .object) in
-    rw (← c .before .before .before .before .before .check-at .ensures, c .before .before .before .enum-told .given .1, ← raw-searched (now (a .slots)) (o .first) (o .count) (answer-ordered (now (a .objects)) (now (a .slots)) (now (a .payload)) (a .object) (c .before .before .before .before .before .check-at .ensures) (c .before .before .before .enum-told .given .1)) (a .ts) (a .off) (a .len), ← c .before .before .object-of .ensures, ← c .before .raw-place .ensures) (c .raw-answer .ensures)
+    rw (← c .before .before .before .before .before .check-at .ensures, c .before .before .before .enum-told .given .1, ← raw-searched (now (a .slots)) (o .first) (o .count) (answer-ordered (now (a .objects)) (now (a .slots)) (now (a .payload)) (a .object) (c .before .before .before .before .before .check-at .ensures) (c .before .before .before .enum-told .given .1)) (a .ts) (a .off) (a .len), ← c .before .before .object-of .ensures, ← c .before .raw-at-unchecked .ensures) (c .raw-answer .ensures)
 
 returns-2 : tie.Need-returns-2
 unfolding rawCall
@@ -43,7 +43,7 @@ raw-found-spec =
     check-at-requires
     enum-told
     object-of-requires
-    raw-place-requires
+    raw-at-unchecked-requires
     raw-answer-requires
     enum-known-refusal
     returns

@@ -40,6 +40,7 @@ use denote.Triple.Walked.{says, Stays, stay-none, stay-none-slice, walkOf, goes-
 use denote.Exit.{yes}
 use denote.Triple.Clauses.{ensured, lasts}
 use Rattle.serializer.specs.Calls.{rawCall, rawPart}
+use Rattle.serializer.specs.Numbers.{rawNumbers}
 use Rattle.serializer.specs.declared.RawAnswer.{RawAnswer}
 use Rattle.serializer.specs.declared.RawPart.{RawPart}
 use Rattle.serializer.proofs.Passed.{Args, slice, vals, Fitting, Objects, Slots, Payload, Passed, kept, again}
@@ -112,7 +113,7 @@ module _ {M : Type 1} (𝓤 : URA M) (H : Heap 𝓤) (A : Atoms 𝓤) (W : Given
       move ! (2 ∷ 0 ∷ []) $ use2 W (raw (RawAt 𝓤 H A mem run .pre to)) asks $ done !
 
   abbrev Told : RawPart → Type 0
-  Told r = (r .answer ≡ call) × (now (r .part) ≡ rawPart (now payload) call len)
+  Told r = (rawNumbers (r .answer) ≡ rawNumbers call) × (now (r .part) ≡ rawPart (now payload) call len)
 
   said : (r : RawPart) → ent 𝓤 (ensured 𝓤 H A raw-at.ended (raw-at.clauses 𝓤 H A mem run) (κ₀, (κ₁, (κ₂, tt))) a tt r) (fact 𝓤 (Told r))
   said r = exE 𝓤 _ (λ ws. snd∗ 𝓤 (sem 𝓤 H A (lasts raw-at.ended (κ₀, (κ₁, (κ₂, tt))) a ws)) (fact 𝓤 (Told r)))

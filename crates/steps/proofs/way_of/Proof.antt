@@ -6,16 +6,16 @@ use Rattle.steps.proofs.way_of.Tie as tie
 use Rattle.steps.proofs.way_of.Reads as reads
 use Rattle.steps.proofs.way_of.Lts as lts
 use Rattle.targets.proofs.here.Reads as here-reads
-use Rattle.targets.proofs.jump_table.Reads as jump-table-reads
-use Rattle.targets.proofs.jump_target.Reads as jump-target-reads
+use Rattle.targets.proofs.jump_table_unchecked.Reads as jump-table-unchecked-reads
+use Rattle.targets.proofs.jump_target_unchecked.Reads as jump-target-unchecked-reads
 
 -- src/lib.rt:47:9
-jump-target-requires : tie.Need-jump-target-requires
-jump-target-requires c κs = search needs
+jump-target-unchecked-requires : tie.Need-jump-target-unchecked-requires
+jump-target-unchecked-requires c κs = search needs
 
 -- src/lib.rt:48:9
-jump-table-requires : tie.Need-jump-table-requires
-jump-table-requires c κs = search needs
+jump-table-unchecked-requires : tie.Need-jump-table-unchecked-requires
+jump-table-unchecked-requires c κs = search needs
 
 -- src/lib.rt:49:9
 here-requires : tie.Need-here-requires
@@ -24,7 +24,7 @@ here-requires c κs = search needs
 -- src/lib.rt:36:1
 returns : tie.Need-returns
 unfolding wayOf
-returns c = rw (c .here .ensures, c .before .jump-table .ensures, c .before .before .jump-target .ensures) refl
+returns c = rw (c .here .ensures, c .before .jump-table-unchecked .ensures, c .before .before .jump-target-unchecked .ensures) refl
 
 pub way-of-spec : {M : Type 1} → statement M
-way-of-spec = tie.close (tie.spec jump-target-requires jump-table-requires here-requires returns)
+way-of-spec = tie.close (tie.spec jump-target-unchecked-requires jump-table-unchecked-requires here-requires returns)

@@ -9,7 +9,6 @@ use Rattle.graph.specs.Graph.{Graph, Step}
 use Rattle.graph.specs.Graph.Step.{To, NoTarget}
 use Rattle.decoder.specs.declared.Instr.{Instr}
 use Rattle.decoder.specs.Listed.{decodes}
-use Rattle.flow.specs.Flow.{flowOf}
 use Rattle.flow.specs.declared.Flow.{Flow}
 use Rattle.flow.specs.declared.Kind.{Kind}
 use Rattle.flow.specs.declared.Kind.the-variants.{On, Ends, Jumps, Branches, JumpsBack, Switch}
@@ -68,7 +67,7 @@ waySteps el w = waysBy (w .kind) el w
 unfoldable pub wayAt : Source → ℕ → Way
 wayAt s o =
     let i = decodes (s .code) (s .opcodes) (s .types) (s .rfs) o .instr in
-    wayOf (s .elem) (s .pooled) (flowOf (s .opcodes) (i .opcode)) i
+    wayOf (s .elem) (s .pooled) (s .opcodes .flow (i .opcode)) i
 
 unfoldable pub searchGraph : Source → Graph
 searchGraph s = record { starts = map offset (listing s .instrs); steps = λ o. waySteps (s .elem) (wayAt s o) }

@@ -14,23 +14,23 @@ use Rattle.walk.proofs.exits.Statement.{statement}
 use Rattle.walk.proofs.exits.Tie as tie
 
 abbrev Inv-loop : tie.InvT-loop
-Inv-loop code opcodes types slots payload flows setup starts o pool way k₀ k = ExitsFrom (graphOf code opcodes types slots payload setup) o k
+Inv-loop code opcodes types slots payload flows f starts o pool way k₀ k = ExitsFrom (graphOf code opcodes types slots payload f) o k
 
 abbrev μ-loop : tie.MeasureT-loop
-μ-loop code opcodes types slots payload flows setup starts o pool way k₀ k = length (graphOf code opcodes types slots payload setup .steps o) - k
+μ-loop code opcodes types slots payload flows f starts o pool way k₀ k = length (graphOf code opcodes types slots payload f .steps o) - k
 
 -- the graph, from the loop's head
 abbrev start : tie.At-loop Inv-loop μ-loop → tie.Start Inv-loop μ-loop
 start i = i .before .before .before .before .before .before .before .before .before
 
 abbrev the-graph : tie.At-loop Inv-loop μ-loop → Graph
-the-graph i = let a = start i .args in graphOf (now (a .code)) (now (a .opcodes)) (now (a .types)) (now (a .slots)) (now (a .payload)) (a .setup)
+the-graph i = let a = start i .args in graphOf (now (a .code)) (now (a .opcodes)) (now (a .types)) (now (a .slots)) (now (a .payload)) (a .f)
 
 -- the step that the loop stands at
 step : (c : tie.After-step-of Inv-loop μ-loop) → stepAs (c .step-of .result) ≡ stepOf (the-graph (c .before)) (start (c .before) .args .o) (c .before .loop .k)
 step c =
     let a = start (c .before) .args in
-    step-is (sourceOf (now (a .code)) (now (a .opcodes)) (now (a .types)) (now (a .slots)) (now (a .payload)) (a .setup)) (a .o) (c .before .loop .k) (c .step-of .result) (c .step-of .ensures) (c .before .before .way-at .ensures)
+    step-is (sourceOf (now (a .code)) (now (a .opcodes)) (now (a .types)) (now (a .slots)) (now (a .payload)) (a .f)) (a .o) (c .before .loop .k) (c .step-of .result) (c .step-of .ensures) (c .before .before .way-at .ensures)
 
 way-at-requires : tie.Need-way-at-requires Inv-loop μ-loop
 way-at-requires c κs = c .before .before .before .before .before .before .before .pre .0 .tabled

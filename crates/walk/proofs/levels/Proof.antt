@@ -14,10 +14,10 @@ use Rattle.walk.proofs.levels.Statement.{statement}
 use Rattle.walk.proofs.levels.Tie as tie
 
 abbrev Inv-loop : tie.InvT-loop
-Inv-loop code opcodes types slots payload flows setup starts marks₀ queue₀ lo₀ hi₀ d₀ marks queue lo hi d = Level (graphOf code opcodes types slots payload setup) marks queue lo hi d × (length marks ≡ length code) × (length queue ≡ length queue₀)
+Inv-loop code opcodes types slots payload flows f starts marks₀ queue₀ lo₀ hi₀ d₀ marks queue lo hi d = Level (graphOf code opcodes types slots payload f) marks queue lo hi d × (length marks ≡ length code) × (length queue ≡ length queue₀)
 
 abbrev μ-loop : tie.MeasureT-loop
-μ-loop code opcodes types slots payload flows setup starts marks₀ queue₀ lo₀ hi₀ d₀ marks queue lo hi d = length code - lo
+μ-loop code opcodes types slots payload flows f starts marks₀ queue₀ lo₀ hi₀ d₀ marks queue lo hi d = length code - lo
 
 -- from the loop's head back to the first push, and to the function's entry
 abbrev pushed : tie.At-loop Inv-loop μ-loop → tie.After-push Inv-loop μ-loop
@@ -27,7 +27,7 @@ abbrev start : tie.At-loop Inv-loop μ-loop → tie.Start Inv-loop μ-loop
 start i = pushed i .before .before .before .before .before .before .before .before .before .before .before .before
 
 abbrev the-graph : tie.At-loop Inv-loop μ-loop → Graph
-the-graph i = let a = start i .args in graphOf (now (a .code)) (now (a .opcodes)) (now (a .types)) (now (a .slots)) (now (a .payload)) (a .setup)
+the-graph i = let a = start i .args in graphOf (now (a .code)) (now (a .opcodes)) (now (a .types)) (now (a .slots)) (now (a .payload)) (a .f)
 
 -- the scan's answer, at the variant that an arm knows
 told : (c : tie.After-lowest Inv-loop μ-loop) (f : Found) → c .lowest .result ≡ f
@@ -46,8 +46,8 @@ lowest-requires c κs =
     let s = start (c .before .before) in
     (l .order, omega (arith, held-le (l .held), l .held .room), s .pre .3, s .pre .4)
 
-enum-known-f : tie.Need-enum-known-f Inv-loop μ-loop
-enum-known-f c = search needs
+enum-known-low : tie.Need-enum-known-low Inv-loop μ-loop
+enum-known-low c = search needs
 
 add-steps : tie.Need-add-steps Inv-loop μ-loop
 add-steps c = let l = c .before .before .before .before .before .before .loop .inv .0 in omega (arith, l .depth, l .order, held-le (l .held), l .held .small)
@@ -59,7 +59,7 @@ same-length-2 : tie.Need-same-length-2 Inv-loop μ-loop
 same-length-2 c = c .before .before .before .before .before .before .loop .inv .2 ∙ pushed (c .before .before .before .before .before .before) .push .kept .1 .0
 
 returns : tie.Need-returns Inv-loop μ-loop
-returns c = level-leaves (c .before .before .before .before .before .before .loop .inv .0) (told (c .before .before .before) _ (c .before .f .given .1)) _
+returns c = level-leaves (c .before .before .before .before .before .before .loop .inv .0) (told (c .before .before .before) _ (c .before .low .given .1)) _
 
 enum-told : tie.Need-enum-told Inv-loop μ-loop
 enum-told c = search needs
@@ -101,7 +101,7 @@ levels-spec =
     push-requires
     loop-holds
     lowest-requires
-    enum-known-f
+    enum-known-low
     add-steps
     same-length
     same-length-2

@@ -12,10 +12,10 @@ use Rattle.walk.proofs.lowest.Statement.{statement}
 use Rattle.walk.proofs.lowest.Tie as tie
 
 abbrev Inv-loop : tie.InvT-loop
-Inv-loop code opcodes types slots payload flows setup starts queue lo hi i₀ f₀ i f = (lo ≤ i) × (i ≤ hi) × Lowest (graphOf code opcodes types slots payload setup) queue lo i (foundAs f)
+Inv-loop code opcodes types slots payload flows f starts queue lo hi i₀ low₀ i low = (lo ≤ i) × (i ≤ hi) × Lowest (graphOf code opcodes types slots payload f) queue lo i (foundAs low)
 
 abbrev μ-loop : tie.MeasureT-loop
-μ-loop code opcodes types slots payload flows setup starts queue lo hi i₀ f₀ i f = hi - i
+μ-loop code opcodes types slots payload flows f starts queue lo hi i₀ low₀ i low = hi - i
 
 loop-holds : tie.Need-loop-holds Inv-loop μ-loop
 loop-holds c = (le-refl _, c .before .before .before .before .before .before .before .before .pre .0, λ i l u. absurd (omega arith))
@@ -45,12 +45,12 @@ abbrev start : tie.At-loop Inv-loop μ-loop → tie.Start Inv-loop μ-loop
 start i = i .before .before .before .before .before .before .before .before .before
 
 abbrev the-graph : tie.At-loop Inv-loop μ-loop → Graph
-the-graph i = let a = start i .args in graphOf (now (a .code)) (now (a .opcodes)) (now (a .types)) (now (a .slots)) (now (a .payload)) (a .setup)
+the-graph i = let a = start i .args in graphOf (now (a .code)) (now (a .opcodes)) (now (a .types)) (now (a .slots)) (now (a .payload)) (a .f)
 
 loop-again : tie.Need-loop-again Inv-loop μ-loop
 loop-again c =
     let i = c .before .before .before .before .before .before in
-    (omega arith, omega arith, lowest-found (the-graph i) (now (start i .args .queue)) (start i .args .lo) (i .loop .i) (foundAs (i .loop .f)) _ _ (c .before .before .before .wide16 .ensures) (i .loop .inv .0) (sym (c .before .before .exits .ensures) ∙ c .before .if1 .taken) (c .lower .ensures) (i .loop .inv .2))
+    (omega arith, omega arith, lowest-found (the-graph i) (now (start i .args .queue)) (start i .args .lo) (i .loop .i) (foundAs (i .loop .low)) _ _ (c .before .before .before .wide16 .ensures) (i .loop .inv .0) (sym (c .before .before .exits .ensures) ∙ c .before .if1 .taken) (c .lower .ensures) (i .loop .inv .2))
 
 loop-less-2 : tie.Need-loop-less-2 Inv-loop μ-loop
 loop-less-2 c = search needs
@@ -58,13 +58,13 @@ loop-less-2 c = search needs
 loop-again-2 : tie.Need-loop-again-2 Inv-loop μ-loop
 loop-again-2 c =
     let i = c .before .before .before .before .before in
-    (omega arith, omega arith, lowest-passed (the-graph i) (now (start i .args .queue)) (start i .args .lo) (i .loop .i) (foundAs (i .loop .f)) _ (c .before .before .wide16 .ensures) (sym (c .before .exits .ensures) ∙ c .if1 .left) (i .loop .inv .2))
+    (omega arith, omega arith, lowest-passed (the-graph i) (now (start i .args .queue)) (start i .args .lo) (i .loop .i) (foundAs (i .loop .low)) _ (c .before .before .wide16 .ensures) (sym (c .before .exits .ensures) ∙ c .if1 .left) (i .loop .inv .2))
 
 returns : tie.Need-returns Inv-loop μ-loop
 returns c =
     let i = c .before in
     let e : i .loop .i ≡ start i .args .hi = omega arith in
-    subst (λ (k : ℕ). Lowest (the-graph i) (now (start i .args .queue)) (start i .args .lo) k (foundAs (i .loop .f))) e (i .loop .inv .2)
+    subst (λ (k : ℕ). Lowest (the-graph i) (now (start i .args .queue)) (start i .args .lo) k (foundAs (i .loop .low))) e (i .loop .inv .2)
 
 pub lowest-spec : {M : Type 1} → statement M
 lowest-spec =

@@ -8,11 +8,11 @@ use mir.Val.{SFits}
 use denote.Ref.{now}
 use lib.ListN.{length}
 use Rattle.refusal.specs.Check.{firstRefusal}
-use Rattle.tables.specs.Records.{prefixOp}
 use Rattle.decoder.specs.declared.Decoded.{Decoded}
 use Rattle.decoder.specs.Listed.{decodes}
 use Rattle.decoder.proofs.Listed.{past, decode-end}
-use Rattle.flow.specs.Flow.{flowOf, flowBy}
+use Rattle.flow.specs.Flow.{flowOf}
+use Rattle.flow.specs.Opcodes.{opcodesOf}
 use Rattle.flow.specs.declared.Flow.{Flow}
 use Rattle.targets.specs.Targets.{jumpTable, found}
 use Rattle.targets.specs.declared.Table.{Table}
@@ -24,20 +24,20 @@ use Rattle.walk.proofs.mark_starts.Statement.{statement}
 use Rattle.walk.proofs.mark_starts.Tie as tie
 
 abbrev Inv-loop : tie.InvT-loop
-Inv-loop code opcodes types flows setup starts₀ pool check₀ i₀ starts check i = Marking opcodes setup (decodes code opcodes types (setup .rfs)) (length code) starts check i
+Inv-loop code opcodes types flows f starts₀ pool frame check₀ i₀ starts check i = Marking (opcodesOf opcodes) f (decodes code (opcodesOf opcodes) types (f .frame .«reg_file_start»)) (length code) starts check i
 
 abbrev μ-loop : tie.MeasureT-loop
-μ-loop code opcodes types flows setup starts₀ pool check₀ i₀ starts check i = length code - i
+μ-loop code opcodes types flows f starts₀ pool frame check₀ i₀ starts check i = length code - i
 
 loop-holds : tie.Need-loop-holds Inv-loop μ-loop
-loop-holds c = let a = c .before .before .before .before .before .args in marking-start _ _ _ _ (now (a .starts)) (c .before .before .before .before .before .pre .1)
+loop-holds c = marking-start _ _ _ _ (now (c .before .before .before .before .before .before .args .starts)) (c .before .before .before .before .before .before .pre .1)
 
 -- what is decoded at the place that the loop stands at
-is : (c : tie.After-decode-at Inv-loop μ-loop) → let a = c .before .before .before .before .before .before .before .before .before .args in c .decode-at .result ≡ decodes (now (a .code)) (now (a .opcodes)) (now (a .types)) (a .setup .rfs) (c .before .before .before .loop .i)
+is : (c : tie.After-decode-at Inv-loop μ-loop) → let a = c .before .before .before .before .before .before .before .before .before .before .args in c .decode-at .result ≡ decodes (now (a .code)) (opcodesOf (now (a .opcodes))) (now (a .types)) (a .f .frame .«reg_file_start») (c .before .before .before .loop .i)
 is c =
-    let a = c .before .before .before .before .before .before .before .before .before .args in
-    let f : SFits w32 (a .setup .rfs) = record { sfits = c .before .struct-told .given .1 .1 .0 .1 } in
-    simp (toZ-ofZ f) at (c .decode-at .ensures) ∙ decoded-is (now (a .code)) (now (a .types)) (a .setup .rfs) (c .before .before .before .loop .i) (c .before .before .before .before .before .before .before .before .before .pre .0)
+    let a = c .before .before .before .before .before .before .before .before .before .before .args in
+    let f : SFits w32 (a .f .frame .«reg_file_start») = record { sfits = c .before .struct-told .given .0 .1 } in
+    simp (toZ-ofZ f) at (c .decode-at .ensures) ∙ decoded-is (now (a .code)) (now (a .types)) (a .f .frame .«reg_file_start») (c .before .before .before .loop .i) (c .before .before .before .before .before .before .before .before .before .before .pre .0)
 
 decode-at-requires : tie.Need-decode-at-requires Inv-loop μ-loop
 decode-at-requires c κs = search needs
@@ -45,8 +45,12 @@ decode-at-requires c κs = search needs
 enum-known-outcome : tie.Need-enum-known-outcome Inv-loop μ-loop
 enum-known-outcome c = search needs
 
+-- the starts are as many as they were
+kept : (i : tie.At-loop Inv-loop μ-loop) → length (i .loop .starts) ≡ length (now (i .before .before .before .before .before .before .before .args .starts))
+kept i = as-long (length (now (i .before .before .before .before .before .before .before .args .code))) (i .loop .starts) (now (i .before .before .before .before .before .before .before .args .starts)) (i .loop .inv .kept) (i .before .before .before .before .before .before .before .pre .1)
+
 same-length : tie.Need-same-length Inv-loop μ-loop
-same-length c = as-long (length (now (c .before .before .before .before .before .before .before .before .before .before .before .before .before .args .code))) (c .before .before .before .before .before .before .before .loop .starts) (now (c .before .before .before .before .before .before .before .before .before .before .before .before .before .args .starts)) (c .before .before .before .before .before .before .before .loop .inv .kept) (c .before .before .before .before .before .before .before .before .before .before .before .before .before .pre .1)
+same-length c = kept (c .before .before .before .before .before .before .before)
 
 returns : tie.Need-returns Inv-loop μ-loop
 returns c = refused-at _ _ _ _ (c .before .before .before .before .before .before .before .loop .inv) (c .before .before .before .before .decode-at .result) (is (c .before .before .before .before)) (c .before .outcome .given .0 .0) (c .before .outcome .given .1)
@@ -55,7 +59,7 @@ enum-told : tie.Need-enum-told Inv-loop μ-loop
 enum-told c = search needs
 
 same-length-2 : tie.Need-same-length-2 Inv-loop μ-loop
-same-length-2 c = as-long (length (now (c .before .before .before .before .before .before .before .before .before .before .before .before .args .code))) (c .before .before .before .before .before .before .loop .starts) (now (c .before .before .before .before .before .before .before .before .before .before .before .before .args .starts)) (c .before .before .before .before .before .before .loop .inv .kept) (c .before .before .before .before .before .before .before .before .before .before .before .before .pre .1)
+same-length-2 c = kept (c .before .before .before .before .before .before)
 
 returns-2 : tie.Need-returns-2 Inv-loop μ-loop
 returns-2 c = end-at _ _ _ _ (c .before .before .before .before .before .before .loop .inv) (c .before .before .before .decode-at .result) (is (c .before .before .before)) (c .enum-told .given .1)
@@ -63,17 +67,11 @@ returns-2 c = end-at _ _ _ _ (c .before .before .before .before .before .before 
 enum-told-2 : tie.Need-enum-told-2 Inv-loop μ-loop
 enum-told-2 c = search needs
 
-cast-byte-at : tie.Need-cast-byte-at Inv-loop μ-loop
-cast-byte-at c = search needs
+flow-in-requires : tie.Need-flow-in-requires Inv-loop μ-loop
+flow-in-requires c κs = search needs
 
-byte-at-requires : tie.Need-byte-at-requires Inv-loop μ-loop
-byte-at-requires c κs = search needs
-
-flow-by-requires : tie.Need-flow-by-requires Inv-loop μ-loop
-flow-by-requires c κs = search needs
-
-jump-table-requires : tie.Need-jump-table-requires Inv-loop μ-loop
-jump-table-requires c κs = search needs
+jump-table-unchecked-requires : tie.Need-jump-table-unchecked-requires Inv-loop μ-loop
+jump-table-unchecked-requires c κs = search needs
 
 table-check-requires : tie.Need-table-check-requires Inv-loop μ-loop
 table-check-requires c κs = search needs
@@ -85,44 +83,44 @@ first-refusal-requires c κs = search needs
 abbrev Own : ℕ → ℕ → Decoded → Type 0
 Own n i x = (i < x .instr .end) × (x .instr .end ≤ n) × (x .instr .offset ≡ i)
 
-progress : (c : tie.After-struct-known Inv-loop μ-loop) → Own (length (now (c .before .before .before .before .before .before .before .before .before .before .before .before .before .args .code))) (c .before .before .before .before .before .before .before .loop .i) (c .before .before .before .before .decode-at .result)
+progress : (c : tie.After-enum-told2 Inv-loop μ-loop) → Own (length (now (c .before .before .before .before .before .before .before .before .before .before .before .before .before .args .code))) (c .before .before .before .before .before .before .loop .i) (c .before .before .before .decode-at .result)
 progress c =
     let a = c .before .before .before .before .before .before .before .before .before .before .before .before .before .args in
-    let i = c .before .before .before .before .before .before .before .loop .i in
-    let e = is (c .before .before .before .before) in
-    let done = ap (λ (y : Decoded). y .outcome) (sym e) ∙ c .before .enum-told2 .given .1 in
-    let q = past (now (a .code)) (now (a .opcodes)) (now (a .types)) (a .setup .rfs) (prefixOp (now (a .opcodes)) 1) (prefixOp (now (a .opcodes)) 2) i done in
-    subst (Own (length (now (a .code))) i) (sym e) (q .0, q .1, own-offset (now (a .code)) (now (a .opcodes)) (now (a .types)) (a .setup .rfs) i done)
+    let i = c .before .before .before .before .before .before .loop .i in
+    let e = is (c .before .before .before) in
+    let done = ap (λ (y : Decoded). y .outcome) (sym e) ∙ c .enum-told2 .given .1 in
+    let q = past (now (a .code)) (opcodesOf (now (a .opcodes))) (now (a .types)) (a .f .frame .«reg_file_start») _ _ i done in
+    subst (Own (length (now (a .code))) i) (sym e) (q .0, q .1, own-offset (now (a .code)) (opcodesOf (now (a .opcodes))) (now (a .types)) (a .f .frame .«reg_file_start») i done)
 
 -- the flow of its opcode
-flow-is : (c : tie.After-flow-by Inv-loop μ-loop) → c .flow-by .result ≡ flowOf (now (c .before .before .before .before .before .before .before .before .before .before .before .before .before .before .before .args .opcodes)) (c .before .before .before .before .before .before .decode-at .result .instr .opcode)
-flow-is c = c .flow-by .ensures ∙ ap flowBy (c .before .byte-at .ensures ∙ c .before .before .before .before .before .before .before .before .before .before .before .before .before .before .before .pre .0 .numbers (c .before .before .before .before .before .before .decode-at .result .instr .opcode) (omega (arith, c .before .before .struct-known .given)))
+flow-is : (c : tie.After-flow-in Inv-loop μ-loop) → c .flow-in .result ≡ flowOf (now (c .before .before .before .before .before .before .before .before .before .before .before .before .before .before .args .opcodes)) (c .before .before .before .before .decode-at .result .instr .opcode)
+flow-is c = c .flow-in .ensures (now (c .before .before .before .before .before .before .before .before .before .before .before .before .before .before .args .opcodes)) (c .before .before .before .before .before .before .before .before .before .before .before .before .before .before .pre .0 .numbers)
 
 slice-write-starts : tie.Need-slice-write-starts Inv-loop μ-loop
-slice-write-starts c = omega (arith, c .before .before .before .before .before .before .before .before .before .before .before .before .loop .inv .kept, c .before .before .before .before .before .before .before .before .before .before .before .loop-test .taken)
+slice-write-starts c = omega (arith, c .before .before .before .before .before .before .before .before .before .before .loop .inv .kept, c .before .before .before .before .before .before .before .before .before .loop-test .taken)
 
 loop-less : tie.Need-loop-less Inv-loop μ-loop
-loop-less c = let q = progress (c .before .before .before .before .before) in omega (arith, q .0, q .1)
+loop-less c = let q = progress (c .before .before .before .before) in omega (arith, q .0, q .1)
 
 loop-again : tie.Need-loop-again Inv-loop μ-loop
 loop-again c =
-    let a = c .before .before .before .before .before .before .before .before .before .before .before .before .before .before .before .before .before .before .args in
-    let l = c .before .before .before .before .before .before .before .before .before .before .before .before .loop in
-    let x = c .before .before .before .before .before .before .before .before .before .decode-at .result in
-    let q = progress (c .before .before .before .before .before) in
-    let t = c .before .before .jump-table .ensures ∙ ap (λ (z : Flow). jumpTable (found (a .setup .pool)) z (x .instr)) (flow-is (c .before .before .before)) in
+    let a = c .before .before .before .before .before .before .before .before .before .before .before .before .before .before .before .before .before .args in
+    let l = c .before .before .before .before .before .before .before .before .before .before .loop in
+    let x = c .before .before .before .before .before .before .before .decode-at .result in
+    let q = progress (c .before .before .before .before) in
+    let t = c .before .before .jump-table-unchecked .ensures ∙ ap (λ (z : Flow). jumpTable (found (a .f .pool)) z (x .instr)) (flow-is (c .before .before .before)) in
     let k = c .first-refusal .ensures ∙ ap (firstRefusal (l .check)) (c .before .table-check .ensures ∙ ap (λ (z : Table). tableCheck z (x .instr .offset)) t) in
-    done-at _ _ _ _ (l .inv) x (is (c .before .before .before .before .before .before .before .before .before)) (c .first-refusal .result) (c .before .before .before .before .before .before .enum-told2 .given .1) (q .0) (q .1) (q .2) k
+    done-at _ _ _ _ (l .inv) x (is (c .before .before .before .before .before .before .before)) (c .first-refusal .result) (c .before .before .before .before .enum-told2 .given .1) (q .0) (q .1) (q .2) k
 
 same-length-3 : tie.Need-same-length-3 Inv-loop μ-loop
-same-length-3 c = as-long (length (now (c .before .before .before .before .before .before .before .args .code))) (c .before .loop .starts) (now (c .before .before .before .before .before .before .before .args .starts)) (c .before .loop .inv .kept) (c .before .before .before .before .before .before .before .pre .1)
+same-length-3 c = kept (c .before)
 
 returns-3 : tie.Need-returns-3 Inv-loop μ-loop
 returns-3 c =
-    let a = c .before .before .before .before .before .before .before .args in
+    let a = c .before .before .before .before .before .before .before .before .args in
     let l = c .before .loop in
-    let e : l .i ≡ length (now (a .code)) = omega (arith, l .inv .going .inside, c .loop-test .left) in
-    marking-end _ _ _ _ (l .inv) (decode-end (now (a .code)) (now (a .opcodes)) (now (a .types)) (a .setup .rfs) (prefixOp (now (a .opcodes)) 1) (prefixOp (now (a .opcodes)) 2) (l .i) e)
+    let e : l .i ≡ length (now (a .code)) = omega (arith, l .inv .going .pass .inside, c .loop-test .left) in
+    marking-end _ _ _ _ (l .inv) (decode-end (now (a .code)) (opcodesOf (now (a .opcodes))) (now (a .types)) (a .f .frame .«reg_file_start») _ _ (l .i) e)
 
 pub mark-starts-spec : {M : Type 1} → statement M
 mark-starts-spec =
@@ -139,10 +137,8 @@ mark-starts-spec =
     same-length-2
     returns-2
     enum-told-2
-    cast-byte-at
-    byte-at-requires
-    flow-by-requires
-    jump-table-requires
+    flow-in-requires
+    jump-table-unchecked-requires
     table-check-requires
     first-refusal-requires
     slice-write-starts

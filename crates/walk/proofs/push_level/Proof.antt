@@ -14,10 +14,10 @@ use Rattle.walk.proofs.push_level.Statement.{statement}
 use Rattle.walk.proofs.push_level.Tie as tie
 
 abbrev Inv-loop : tie.InvT-loop
-Inv-loop code opcodes types slots payload flows setup marks₀ queue₀ lo hi end₀ i₀ marks queue end i = (lo ≤ i) × (i ≤ hi) × Grown queue₀ hi marks queue end (SuccIn (graphOf code opcodes types slots payload setup) queue₀ lo i) × (length marks ≡ length marks₀) × (length queue ≡ length queue₀)
+Inv-loop code opcodes types slots payload flows f marks₀ queue₀ lo hi end₀ i₀ marks queue end i = (lo ≤ i) × (i ≤ hi) × Grown queue₀ hi marks queue end (SuccIn (graphOf code opcodes types slots payload f) queue₀ lo i) × (length marks ≡ length marks₀) × (length queue ≡ length queue₀)
 
 abbrev μ-loop : tie.MeasureT-loop
-μ-loop code opcodes types slots payload flows setup marks₀ queue₀ lo hi end₀ i₀ marks queue end i = hi - i
+μ-loop code opcodes types slots payload flows f marks₀ queue₀ lo hi end₀ i₀ marks queue end i = hi - i
 
 loop-holds : tie.Need-loop-holds Inv-loop μ-loop
 loop-holds c = (le-refl _, c .before .before .before .before .before .before .before .before .pre .2, grown-none (c .before .before .before .before .before .before .before .before .pre .0) (λ p x. absurd (omega (arith, x .1, x .2))), refl, refl)
@@ -35,7 +35,7 @@ abbrev start : tie.At-loop Inv-loop μ-loop → tie.Start Inv-loop μ-loop
 start i = i .before .before .before .before .before .before .before .before .before
 
 abbrev the-graph : tie.At-loop Inv-loop μ-loop → Graph
-the-graph i = let a = start i .args in graphOf (now (a .code)) (now (a .opcodes)) (now (a .types)) (now (a .slots)) (now (a .payload)) (a .setup)
+the-graph i = let a = start i .args in graphOf (now (a .code)) (now (a .opcodes)) (now (a .types)) (now (a .slots)) (now (a .payload)) (a .f)
 
 push-steps-requires : tie.Need-push-steps-requires Inv-loop μ-loop
 push-steps-requires c κs =

@@ -23,9 +23,9 @@ levels-requires c κs =
       subst (λ (M : List ℕ). Held M (now (a .queue)) 0) (sym (c .before .before .before .before .clear .ensures)) (held-none (length (now (a .marks))) (now (a .queue)) (omega (arith, s .pre)) (omega (arith, s .pre))),
       c .before .before .before .before .clear .kept .0 ∙ s .pre .0,
       s .pre .1,
-      record { tabled = s .pre .4; lawful = search-lawful (sourceOf (now (a .code)) (now (a .opcodes)) (now (a .types)) (now (a .slots)) (now (a .payload)) (a .setup)) (s .pre .5) },
+      record { tabled = s .pre .4; lawful = search-lawful (sourceOf (now (a .code)) (now (a .opcodes)) (now (a .types)) (now (a .slots)) (now (a .payload)) (a .f)) (s .pre .5) },
       s .pre .6,
-      search-first (sourceOf (now (a .code)) (now (a .opcodes)) (now (a .types)) (now (a .slots)) (now (a .payload)) (a .setup)) (s .pre .5) (s .pre .1),
+      search-first (sourceOf (now (a .code)) (now (a .opcodes)) (now (a .types)) (now (a .slots)) (now (a .payload)) (a .f)) (s .pre .5) (s .pre .1),
     )
 
 same-length : tie.Need-same-length
@@ -38,7 +38,7 @@ returns : tie.Need-returns
 returns c =
     let s = c .before .before .before .before .before .before .before .before .before .before .before .before .before .before .before .before .before .before .before .before in
     let a = s .args in
-    searched (sourceOf (now (a .code)) (now (a .opcodes)) (now (a .types)) (now (a .slots)) (now (a .payload)) (a .setup)) (s .pre .5) _ (c .before .before .before .before .levels .result) (c .before .before .before .before .levels .kept .1 .1 .1 .1 .1 .1 .1 .1 .0 ∙ c .before .before .before .before .before .before .before .before .before .clear .kept .0 ∙ s .pre .0) (c .before .before .before .before .levels .ensures)
+    searched (sourceOf (now (a .code)) (now (a .opcodes)) (now (a .types)) (now (a .slots)) (now (a .payload)) (a .f)) (s .pre .5) _ (c .before .before .before .before .levels .result) (c .before .before .before .before .levels .kept .1 .1 .1 .1 .1 .1 .1 .1 .0 ∙ c .before .before .before .before .before .before .before .before .before .clear .kept .0 ∙ s .pre .0) (c .before .before .before .before .levels .ensures)
 
 pub search-spec : {M : Type 1} → statement M
 search-spec = tie.close (tie.spec clear-requires levels-requires same-length same-length-2 returns)

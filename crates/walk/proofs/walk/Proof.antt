@@ -1,15 +1,13 @@
 use mathlib.Core.Path.{refl, sym, ap, _∙_}
-use mathlib.Core.List.{List}
-use Prim.Native.Nat.{ℕ}
 use denote.Ref.{now}
 use Rattle.refusal.specs.Check.{firstRefusal}
 use Rattle.store.specs.declared.Object.{Object}
-use Rattle.function.specs.Files.{Files, checkFiles}
+use Rattle.function.specs.Files.{filesOf, checkFiles}
 use Rattle.function.specs.Code.{headerCheck, headerAt}
-use Rattle.walk.specs.declared.Walked.{Walked}
+use Rattle.walk.specs.Numbers.{walkedNumbers}
 use Rattle.walk.specs.Walk.{walkCall, objectSource}
 use Rattle.walk.specs.mirror.Search.{walkSearched}
-use Rattle.walk.proofs.Answers.{promise-unless}
+use Rattle.walk.proofs.Answers.{walked-as, promise-unless}
 use Rattle.walk.proofs.Searched.{walked-searched}
 use borrow.Author.Needs.{needs}
 use Rattle.walk.proofs.walk.Statement.{statement}
@@ -41,12 +39,11 @@ returns-2 : tie.Need-returns-2
 unfolding walkCall
 returns-2 c =
     let a = c .before .before .before .before .before .before .before .before .before .before .before .before .before .before .before .before .before .args in
-    let f : Files = record { opcodes = now (a .opcodes); types = now (a .types); runtime = now (a .runtime); intrinsic = now (a .intrinsic); layout = now (a .layout); objects = now (a .objects); slots = now (a .slots); payload = now (a .payload) } in
+    let f = filesOf (now (a .opcodes)) (now (a .types)) (now (a .runtime)) (now (a .intrinsic)) (now (a .layout)) (now (a .objects)) (now (a .slots)) (now (a .payload)) in
     let ok = sym (c .before .before .before .before .before .before .before .check-files .ensures) ∙ c .before .before .before .before .before .enum-told .given .1 in
     let e = ap (λ (x : Object). walkSearched f x (now (a .marks))) (c .before .before .before .object-of .ensures) ∙ walked-searched f (now (a .marks)) (a .object) ok in
-    let q = c .before .before .walk-object .ensures in
-    let r = q .0 ∙ ap (λ (x : Walked × List ℕ). x .0) e in
-    ((r, q .1 ∙ ap (λ (x : Walked × List ℕ). x .1) e), promise-unless (objectSource f (a .object)) (firstRefusal (checkFiles f (a .object)) (headerCheck (headerAt f (a .object)))) (now (a .marks)) (c .before .before .walk-object .result) r)
+    let w = walked-as e (c .before .before .walk-object .ensures) in
+    ((ap walkedNumbers (w .0), w .1), promise-unless (objectSource f (a .object)) (firstRefusal (checkFiles f (a .object)) (headerCheck (headerAt f (a .object)))) (now (a .marks)) w)
 
 pub walk-spec : {M : Type 1} → statement M
 walk-spec =

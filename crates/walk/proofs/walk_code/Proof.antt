@@ -1,11 +1,10 @@
 use mathlib.Core.Path.{refl, sym, ap, _∙_}
-use mathlib.Core.List.{List, []}
-use Prim.Native.Nat.{ℕ}
 use denote.Ref.{now}
-use Rattle.function.specs.Files.{Files, checkLent}
-use Rattle.walk.specs.declared.Walked.{Walked}
+use Rattle.function.specs.declared.Function.{Function}
+use Rattle.function.specs.Files.{lentFiles, checkLent}
+use Rattle.walk.specs.Numbers.{walkedNumbers}
 use Rattle.walk.specs.Walk.{walkLent, lentSource}
-use Rattle.walk.proofs.Answers.{promise-unless}
+use Rattle.walk.proofs.Answers.{walked-as, promise-unless}
 use Rattle.walk.proofs.Searched.{lent-short, lent-walked}
 use borrow.Author.Needs.{needs}
 use Rattle.walk.proofs.walk_code.Statement.{statement}
@@ -26,11 +25,15 @@ layout-of-requires c κs = search needs
 lent-pool-requires : tie.Need-lent-pool-requires
 lent-pool-requires c κs = search needs
 
+function-of-requires : tie.Need-function-of-requires
+function-of-requires c κs = search needs
+
 walk-source-requires : tie.Need-walk-source-requires
 walk-source-requires c κs =
-    let a = c .before .before .before .before .before .before .before .before .before .before .before .before .before .before .args in
-    let f : Files = record { opcodes = now (a .opcodes); types = now (a .types); runtime = []; intrinsic = []; layout = now (a .layout); objects = now (a .objects); slots = now (a .slots); payload = now (a .payload) } in
-    lent-short f (a .object) (now (a .code)) (now (a .marks)) (sym (c .before .before .before .before .before .check-lent .ensures) ∙ c .before .before .before .enum-told .given .1)
+    let a = c .before .before .before .before .before .before .before .before .before .before .before .before .before .before .before .args in
+    let s = lentFiles (now (a .opcodes)) (now (a .types)) (now (a .layout)) (now (a .objects)) (now (a .slots)) (now (a .payload)) in
+    let e = c .before .function-of .ensures in
+    (lent-short s (a .object) (now (a .code)) (sym (c .before .before .before .before .before .before .check-lent .ensures) ∙ c .before .before .before .before .enum-told .given .1), ap (λ (x : Function). x .wide) e, ap (λ (x : Function). x .extra) e)
 
 returns : tie.Need-returns
 unfolding walkLent
@@ -42,13 +45,12 @@ same-length c = search needs
 returns-2 : tie.Need-returns-2
 unfolding walkLent
 returns-2 c =
-    let a = c .before .before .before .before .before .before .before .before .before .before .before .before .before .before .before .before .before .args in
-    let f : Files = record { opcodes = now (a .opcodes); types = now (a .types); runtime = []; intrinsic = []; layout = now (a .layout); objects = now (a .objects); slots = now (a .slots); payload = now (a .payload) } in
-    let ok = sym (c .before .before .before .before .before .before .before .before .check-lent .ensures) ∙ c .before .before .before .before .before .before .enum-told .given .1 in
-    let e = lent-walked f (a .object) (now (a .code)) (now (a .marks)) ok (c .before .before .before .before .before .layout-of .result) (c .before .before .before .before .lent-pool .result) (c .before .before .before .before .before .layout-of .ensures) (c .before .before .before .before .lent-pool .ensures) in
-    let q = c .before .before .walk-source .ensures in
-    let r = q .0 ∙ ap (λ (x : Walked × List ℕ). x .0) e in
-    ((r, q .1 ∙ ap (λ (x : Walked × List ℕ). x .1) e), promise-unless (lentSource f (a .object) (now (a .code))) (checkLent f (a .object) (now (a .code))) (now (a .marks)) (c .before .before .walk-source .result) r)
+    let a = c .before .before .before .before .before .before .before .before .before .before .before .before .before .before .before .before .before .before .args in
+    let s = lentFiles (now (a .opcodes)) (now (a .types)) (now (a .layout)) (now (a .objects)) (now (a .slots)) (now (a .payload)) in
+    let ok = sym (c .before .before .before .before .before .before .before .before .before .check-lent .ensures) ∙ c .before .before .before .before .before .before .before .enum-told .given .1 in
+    let e = lent-walked s (a .object) (now (a .code)) (now (a .marks)) ok (c .before .before .before .before .function-of .result) _ _ (c .before .before .before .before .function-of .ensures) (c .before .before .before .before .before .before .layout-of .ensures) (c .before .before .before .before .before .lent-pool .ensures) in
+    let w = walked-as e (c .before .before .walk-source .ensures) in
+    ((ap walkedNumbers (w .0), w .1), promise-unless (lentSource s (a .object) (now (a .code))) (checkLent s (a .object) (now (a .code))) (now (a .marks)) w)
 
 pub walk-code-spec : {M : Type 1} → statement M
 walk-code-spec =
@@ -59,6 +61,7 @@ walk-code-spec =
     enum-told
     layout-of-requires
     lent-pool-requires
+    function-of-requires
     walk-source-requires
     returns
     same-length

@@ -35,7 +35,7 @@ same-length c = search needs
 
 -- what the call is about
 abbrev source : tie.Start → Source
-source s = let a = s .args in sourceOf (now (a .code)) (now (a .opcodes)) (now (a .types)) (now (a .slots)) (now (a .payload)) (a .setup)
+source s = let a = s .args in sourceOf (now (a .code)) (now (a .opcodes)) (now (a .types)) (now (a .slots)) (now (a .payload)) (a .f)
 
 returns : tie.Need-returns
 returns c = source-empty (source (c .before .before .before .before .before .before .before .before .before .before .before .before .before .before .before .before .before .before .before .before .before .before .before)) (now (c .before .before .before .before .before .before .before .before .before .before .before .before .before .before .before .before .before .before .before .before .before .before .before .args .marks)) (sym (c .before .before .before .enum-told .given .1) ∙ c .before .before .before .before .before .before .before .mark-starts .ensures .checked) (c .before .before .if1 .taken)

@@ -5,7 +5,8 @@ use mir.Syntax.{w32}
 use mir.Val.{SFits}
 use denote.Ref.{now}
 use Rattle.decoder.specs.Listed.{decodes}
-use Rattle.flow.specs.Flow.{flowOf, flowBy}
+use Rattle.flow.specs.Flow.{flowOf}
+use Rattle.flow.specs.Opcodes.{opcodesOf}
 use Rattle.walk.specs.mirror.Search.{sourceOf}
 use Rattle.walk.proofs.Laws.{decoded-is, way-is}
 use borrow.Author.Needs.{needs}
@@ -15,39 +16,27 @@ use Rattle.walk.proofs.way_at.Tie as tie
 decode-at-requires : tie.Need-decode-at-requires
 decode-at-requires c κs = search needs
 
-cast-byte-at : tie.Need-cast-byte-at
-cast-byte-at c = search needs
-
-byte-at-requires : tie.Need-byte-at-requires
-byte-at-requires c κs = search needs
-
-flow-by-requires : tie.Need-flow-by-requires
-flow-by-requires c κs = search needs
+flow-in-requires : tie.Need-flow-in-requires
+flow-in-requires c κs = search needs
 
 way-of-requires : tie.Need-way-of-requires
 way-of-requires c κs = search needs
 
 -- what is decoded at o
-is : (c : tie.After-decode-at) → let a = c .before .before .before .before .before .before .before .before .args in c .decode-at .result ≡ decodes (now (a .code)) (now (a .opcodes)) (now (a .types)) (a .setup .rfs) (a .o)
+is : (c : tie.After-decode-at) → let a = c .before .before .before .before .before .before .before .before .before .args in c .decode-at .result ≡ decodes (now (a .code)) (opcodesOf (now (a .opcodes))) (now (a .types)) (a .f .frame .«reg_file_start») (a .o)
 is c =
-    let a = c .before .before .before .before .before .before .before .before .args in
-    let f : SFits w32 (a .setup .rfs) = record { sfits = c .before .struct-told .given .1 .1 .0 .1 } in
-    simp (toZ-ofZ f) at (c .decode-at .ensures) ∙ decoded-is (now (a .code)) (now (a .types)) (a .setup .rfs) (a .o) (c .before .before .before .before .before .before .before .before .pre)
+    let a = c .before .before .before .before .before .before .before .before .before .args in
+    let f : SFits w32 (a .f .frame .«reg_file_start») = record { sfits = c .before .struct-told .given .0 .1 } in
+    simp (toZ-ofZ f) at (c .decode-at .ensures) ∙ decoded-is (now (a .code)) (now (a .types)) (a .f .frame .«reg_file_start») (a .o) (c .before .before .before .before .before .before .before .before .before .pre)
 
 -- the flow of its opcode
-flow-is : (c : tie.After-flow-by) → let a = c .before .before .before .before .before .before .before .before .before .before .before .before .args in c .flow-by .result ≡ flowOf (now (a .opcodes)) (c .before .before .before .before .decode-at .result .instr .opcode)
-flow-is c = c .flow-by .ensures ∙ ap flowBy (c .before .byte-at .ensures ∙ c .before .before .before .before .before .before .before .before .before .before .before .before .pre .numbers (c .before .before .before .before .decode-at .result .instr .opcode) (omega (arith, c .before .before .struct-known .given)))
+flow-is : (c : tie.After-flow-in) → c .flow-in .result ≡ flowOf (now (c .before .before .before .before .before .before .before .before .before .before .before .args .opcodes)) (c .before .before .decode-at .result .instr .opcode)
+flow-is c = c .flow-in .ensures (now (c .before .before .before .before .before .before .before .before .before .before .before .args .opcodes)) (c .before .before .before .before .before .before .before .before .before .before .before .pre .numbers)
 
 returns : tie.Need-returns
-returns c = let a = c .before .before .before .before .before .before .before .before .before .before .before .before .before .args in way-is (sourceOf (now (a .code)) (now (a .opcodes)) (now (a .types)) (now (a .slots)) (now (a .payload)) (a .setup)) (a .o) (c .before .before .before .before .before .decode-at .result) (is (c .before .before .before .before .before)) (flow-is (c .before)) (c .way-of .ensures)
+returns c =
+    let a = c .before .before .before .before .before .before .before .before .before .before .before .before .args in
+    way-is (sourceOf (now (a .code)) (now (a .opcodes)) (now (a .types)) (now (a .slots)) (now (a .payload)) (a .f)) (a .o) (c .before .before .before .decode-at .result) (is (c .before .before .before)) (flow-is (c .before)) (c .way-of .ensures)
 
 pub way-at-spec : {M : Type 1} → statement M
-way-at-spec =
-    tie.close
-    (tie.spec
-    decode-at-requires
-    cast-byte-at
-    byte-at-requires
-    flow-by-requires
-    way-of-requires
-    returns)
+way-at-spec = tie.close (tie.spec decode-at-requires flow-in-requires way-of-requires returns)

@@ -16,8 +16,8 @@ none-seen-requires c κs = search needs
 loop-holds : tie.Need-loop-holds Inv-loop μ-loop
 loop-holds c = search needs
 
-entry-at-requires : tie.Need-entry-at-requires Inv-loop μ-loop
-entry-at-requires c κs = search needs
+jump-entry-unchecked-requires : tie.Need-jump-entry-unchecked-requires Inv-loop μ-loop
+jump-entry-unchecked-requires c κs = search needs
 
 seen-after-requires : tie.Need-seen-after-requires Inv-loop μ-loop
 seen-after-requires c κs = search needs
@@ -45,7 +45,7 @@ are-shown-spec =
     μ-loop
     none-seen-requires
     loop-holds
-    entry-at-requires
+    jump-entry-unchecked-requires
     seen-after-requires
     add-k
     loop-less
