@@ -1,22 +1,20 @@
 -- Two graphs that do alike, as computed tests say it, have one finding and the same marks. Assumes nothing.
 use Prim.Native.Nat.{ℕ, suc, _≤_}
 use mathlib.Core.Path.{_≡_, refl, sym, ap, _∙_, subst}
-use mathlib.Core.Bool.{Bool, true, false, cond, _||_}
-use mathlib.Core.List.{List, [], _∷_}
-use mathlib.Core.Logic.{inl, inr, ⊎-elim}
+use mathlib.Core.Bool.{Bool, true, false, _||_}
+use mathlib.Core.List.{List, [], _∷_, append-nil}
+use mathlib.Core.Logic.{⊎-elim}
 use native.Mathlib.Omega.{arith}
 use borrow.Author.Tests.{eqb-true, eq-eqb, ne-eqb}
 use lib.Dec.{eqb}
 use lib.ListN.{length}
 use Rattle.laws.proofs.Tests.{clash, either, or-either, same?}
 use Rattle.graph.specs.Lists.{any, elem}
-use Rattle.graph.specs.Graph.{Graph, Good, Rising, isStart, isTo, Finding, exits, finding, marked, markList}
-use Rattle.graph.specs.mirror.Right.{Mark, Marked, Answer}
+use Rattle.graph.specs.Graph.{Graph, Good, Rising, isStart, isTo, Finding, Answer, exits, finding, marked, markList}
 use Rattle.graph.proofs.Lists.{or-left, any-among, among-any, first-lowest}
 use Rattle.graph.proofs.Levels.{exits-sound, exits-complete}
-use Rattle.graph.proofs.Findings.{finding-meets}
-use Rattle.graph.proofs.Marks.{marked-is, bits-length, bits-at}
-use Rattle.graph.proofs.Answers.{found}
+use Rattle.graph.proofs.Marks.{bits-length}
+use Rattle.graph.proofs.Answers.{found, computed}
 use Rattle.graph.proofs.Same.{Less, answer-same}
 
 -- one list of starts; from each start both go to the same starts, and both leave or neither does
@@ -43,18 +41,6 @@ alike-less {g} {g′} a = record {
   leaves = λ o h x. exits-sound g′ o (sym (a .leaves o h) ∙ exits-complete x);
 }
 
--- the computed finding and marks are right
-answer-is : {g : Graph} → Good g → (n : ℕ) → Answer g n (markList g (finding g) n) (finding g)
-unfolding markList
-answer-is {g} G n = record { claim = finding-meets G; marks = λ p l. subst (λ (v : ℕ). Mark v (Marked g (finding g) p)) (sym (bits-at (marked g (finding g)) n p l)) (mark p) }
-  where
-    by : (p : ℕ) (b : Bool) → marked g (finding g) p ≡ b → Mark (cond b 1 0) (Marked g (finding g) p)
-    by p true e = inl (refl, marked-is g p (finding g) .0 e)
-    by p false e = inr (refl, λ x. clash (marked-is g p (finding g) .1 x) e)
-
-    mark : (p : ℕ) → Mark (cond (marked g (finding g) p) 1 0) (Marked g (finding g) p)
-    mark p = by p (marked g (finding g) p) refl
-
 marks-length : (g : Graph) (f : Finding) (n : ℕ) → length (markList g f n) ≡ n
 unfolding markList
 marks-length g f n = bits-length (marked g f) 0 n
@@ -64,7 +50,7 @@ module _ {g g′ : Graph} (G : Good g) (a : Alike g g′) where
   good-too = record { rising = subst (Rising 0) (a .starts) (G .rising) }
 
   both : (n : ℕ) → (finding g ≡ finding g′) × (markList g (finding g) n ≡ markList g′ (finding g′) n)
-  both n = found good-too (marks-length g (finding g) n) (answer-same (alike-less a) (alike-less (alike-back a)) (answer-is G n))
+  both n = found good-too (marks-length g (finding g) n) (answer-same (alike-less a) (alike-less (alike-back a)) (subst (λ (M : List ℕ). Answer g n M (finding g)) (append-nil (markList g (finding g) n)) (computed G n [])))
 
   pub finding-alike : finding g ≡ finding g′
   finding-alike = both 0 .0

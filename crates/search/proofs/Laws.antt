@@ -11,13 +11,12 @@ use lib.ListN.{getD, length, replicate, List·getD-eq-default}
 use Rattle.laws.proofs.Tests.{by-test, either, clash, or-either, under?}
 use Rattle.serializer.specs.declared.Elem.{Elem}
 use Rattle.graph.specs.Lists.{any, elem}
-use Rattle.graph.specs.Graph.{Graph, Good, Rising, Step, isStart, stepLeaves, isTo, Succ, Reach, Leaving, exits}
+use Rattle.graph.specs.Graph.{Graph, Good, Rising, Step, isStart, stepLeaves, isTo, Succ, Reach, Leaving, Answer, exits}
 use Rattle.graph.specs.Graph.Step.{To, NoTarget}
 use Rattle.graph.specs.Graph.Reach.{here, next}
 use Rattle.graph.specs.Graph.Leaving.{leave}
 use Rattle.graph.specs.Graph.Finding.{closed}
 use Rattle.graph.specs.mirror.Queue.{Held, Grown}
-use Rattle.graph.specs.mirror.Right.{Answer}
 use Rattle.graph.proofs.Lists.{or-left, or-right, any-among, among-any, none-among}
 use Rattle.graph.proofs.Queues.{zero-at, grown-none, grown-join, grown-same}
 use Rattle.graph.proofs.Answers.{found}
