@@ -354,7 +354,8 @@ fn mark_starts(
 ) -> Check
     requires { ⌜ Tabled (now opcodes) (now flows) f × (now starts ≡ replicate (length (now code)) 0) ⌝ }
     ensures { λ r. let ops : Opcodes = opcodesOf (now (opcodes .entry)) in
-        ⌜ Started ops f (listed (now (code .entry)) ops (now (types .entry)) (f .frame .«reg_file_start»)) (length (now (code .entry))) (now (starts .exit)) r ⌝ }
+        ⌜ Started ops f (listed (now (code .entry)) ops (now (types .entry)) (f .frame .«reg_file_start»)) (length (now (code .entry)))
+        (now (starts .exit)) r ⌝ }
 {
     let pool = f.pool;
     let frame = f.frame;
