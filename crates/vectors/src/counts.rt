@@ -22,7 +22,7 @@ pub struct Counts {
 }
 
 // The row of what is no call of a known function.
-pub const UNKNOWN: u8 = 31;
+pub const UNKNOWN: u8 = 39;
 
 pub fn no_counts() -> Counts {
     let calls = [0u64; 40];
@@ -75,7 +75,7 @@ pub fn with_codes(mut counts: Counts, codes: u64) -> Counts {
 }
 
 fn place(row: u8) -> usize {
-    if row < UNKNOWN { row as usize } else { 31 }
+    if row < UNKNOWN { row as usize } else { 39 }
 }
 
 // One more, up to the greatest number.
