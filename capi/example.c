@@ -1,5 +1,5 @@
-/* Lists the function whose eight record files are in a folder, checks its walks, and decodes the first instruction of a small code by their
-   tables.
+/* Lists the function whose eight record files are in a folder, checks its walks, and by their tables decodes the first instruction of a small
+   code, and finds the target of a jump and the walks of another, for which no object is lent.
      cc -Icapi/include capi/example.c target/staticlib/libcapi.a -o target/example && target/example crates/jscd_list/data */
 #include "jscd.h"
 #include <stdio.h>
@@ -67,5 +67,17 @@ int main(int argc, char **argv) {
     if (answer == JSCD_DONE && numbers[JSCD_OPERANDS] > 0)
         printf("opcode %llu, first operand of kind %llu: %lld\n", (unsigned long long)numbers[JSCD_OPCODE],
                (unsigned long long)numbers[JSCD_OPERAND(0)], (long long)numbers[JSCD_OPERAND(0) + 1]);
+
+    static const uint8_t jump[] = {0x06, 0x02, 0x0b};
+    static const uint8_t none[1];
+    uint64_t values[2];
+    answer = jscd_target(jump, sizeof jump, 0, f[0].bytes, f[0].length, f[1].bytes, f[1].length, f[4].bytes, f[4].length, none, 0,
+                         none, 0, none, 0, 0, 0, &place, values);
+    if (answer == JSCD_DONE && values[0] == JSCD_FOUND)
+        printf("target %llu\n", (unsigned long long)values[1]);
+    answer = jscd_walk_code(marks, sizeof marks, jump, sizeof jump, f[0].bytes, f[0].length, f[1].bytes, f[1].length, f[4].bytes,
+                            f[4].length, none, 0, none, 0, none, 0, 0, 0, &steps, &place);
+    if (answer == JSCD_DONE)
+        printf("closed, marks %d %d %d\n", marks[0], marks[1], marks[2]);
     return 0;
 }

@@ -7,7 +7,7 @@ use mathlib.Core.Logic.{⊎-elim}
 use native.Mathlib.Omega.{arith}
 use lib.Dec.{ltb}
 use lib.IntN.{ℤ, pos}
-use lib.ListN.{length, getD, set, length-append, length-map, length-replicate, List·getD-append, List·getD-map}
+use lib.ListN.{length, getD, set, length-append, length-map, List·getD-append, List·getD-map}
 use lib.Seq.{getD-set-same, getD-set-other, getD-append-add, ext-getD}
 use Rattle.laws.specs.Scan.{firstFrom}
 use Rattle.laws.proofs.Tests.{same?, under?, by-test}
@@ -125,7 +125,7 @@ unfolding decodeOne decodeAt
 eight ops types layout code start = go (firstRefusal (checkTable ops types [] [] layout) (checkCode code))
   where
     go : (c : Check) → Eight (guarded c refusedBy (decodes code (opcodesOf ops) types (signedValue layout 13) start))
-    go Ok = eight-head (headAt code (opcodesOf ops .many) start (prefixWith (opcodesOf ops) 1) (prefixWith (opcodesOf ops) 2)) code (opcodesOf ops) types start (signedValue layout 13)
+    go Ok = let o = opcodesOf ops in eight-head (headAt code (o .many) start (prefixWith o 1) (prefixWith o 2)) code o types start (signedValue layout 13)
     go (Refused r) = refl
 
 -- ---- as it is told

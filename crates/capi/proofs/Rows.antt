@@ -14,7 +14,6 @@ use Rattle.refusal.specs.Check.{guarded}
 use Rattle.serializer.specs.declared.Elem.{Elem}
 use Rattle.tables.specs.Layout.{signedValue}
 use Rattle.decoder.specs.declared.Outcome.{Outcome}
-use Rattle.flow.specs.Flow.{flowOf}
 use Rattle.flow.specs.Opcodes.{opcodesOf}
 use Rattle.targets.specs.Targets.{here, found, jumpTarget, jumpTable, entryAt}
 use Rattle.targets.specs.declared.Target.{Target}
@@ -32,7 +31,7 @@ use Rattle.jumps.specs.declared.TableAnswer.the-variants as table-answer
 use Rattle.jumps.specs.declared.EntryAnswer.the-variants as entry-answer
 use Rattle.jumps.specs.Numbers.{targetNumbers, entryNumbers}
 use Rattle.jumps.specs.Jumps.{targetTold, targetAfter, targetOf, targetCall, tableTold, tableAfter, tableOf, tableCall, entryTold, entryOf, entryCall}
-use Rattle.walk.proofs.Rows.{Row, RowOf, lent-row, decode-row}
+use Rattle.walk.proofs.Rows.{RowOf, lent-row, decode-row}
 
 -- the numbers of a refusal, which has no values
 abbrev Told : Numbers → Type 0
@@ -54,7 +53,7 @@ module _ (at : ℕ) where
       decoded Outcome.Done target.Nothing row e = some _ _ e
 
       checked : (c : Check) → RowOf c → Told (targetNumbers at (guarded c target-answer.Refused (targetOf (opcodesOf (f .opcodes)) (lentElem f w) (decodedAt f code at))))
-      checked Ok row e = let d = decodedAt f code at in decoded (d .outcome) (jumpTarget (lentElem f w) (flowOf (f .opcodes) (d .instr .opcode)) (d .instr)) (decode-row code (opcodesOf (f .opcodes)) (f .types) (signedValue (f .layout) 13) at) e
+      checked Ok row e = let d = decodedAt f code at in decoded (d .outcome) (jumpTarget (lentElem f w) (opcodesOf (f .opcodes) .flow (d .instr .opcode)) (d .instr)) (decode-row code (opcodesOf (f .opcodes)) (f .types) (signedValue (f .layout) 13) at) e
       checked (Refused r) row e = (row .row r refl .least, row .row r refl .most)
 
   -- ---- entries
@@ -84,5 +83,5 @@ module _ (at : ℕ) where
       decoded Outcome.Done t row e = shown t e
 
       checked : (c : Check) → RowOf c → Told (entryNumbers at (entryOf el from (guarded c table-answer.Refused (tableOf (opcodesOf (f .opcodes)) (found (lentPool f w)) (decodedAt f code at) at)) k))
-      checked Ok row e = let d = decodedAt f code at in decoded (d .outcome) (jumpTable (found (lentPool f w)) (flowOf (f .opcodes) (d .instr .opcode)) (d .instr)) (decode-row code (opcodesOf (f .opcodes)) (f .types) (signedValue (f .layout) 13) at) e
+      checked Ok row e = let d = decodedAt f code at in decoded (d .outcome) (jumpTable (found (lentPool f w)) (opcodesOf (f .opcodes) .flow (d .instr .opcode)) (d .instr)) (decode-row code (opcodesOf (f .opcodes)) (f .types) (signedValue (f .layout) 13) at) e
       checked (Refused r) row e = (row .row r refl .least, row .row r refl .most)

@@ -28,16 +28,16 @@ use Rattle.serializer.specs.declared.Elem.{Elem}
 use Rattle.targets.specs.Targets.{here, jumpTarget, jumpTable, entryAt, isSwitch, sizedBy, tableBy}
 use Rattle.targets.specs.declared.Entries.{Entries}
 use Rattle.targets.specs.declared.Entry.{Entry}
-use Rattle.targets.specs.declared.Entry.the-variants as entry
 use Rattle.targets.specs.declared.Index.{Index}
-use Rattle.targets.specs.declared.Index.the-variants as index
 use Rattle.targets.specs.declared.Number.{Number}
-use Rattle.targets.specs.declared.Number.the-variants as number
 use Rattle.targets.specs.declared.Table.{Table}
-use Rattle.targets.specs.declared.Table.the-variants as table
 use Rattle.steps.specs.declared.Way.{Way}
 use Rattle.steps.specs.Steps.{Source, entrySteps, entriesSteps, tableSteps, jumpsBy, onBy, instrSteps, stepsAt, listing, offset, walkGraph}
 use Rattle.steps.specs.mirror.Ways.{entryStep, entryWays, tableWays, waysBy, waySteps, wayOf, wayAt, searchGraph}
+use Rattle.targets.specs.declared.Entry.the-variants as entry
+use Rattle.targets.specs.declared.Index.the-variants as index
+use Rattle.targets.specs.declared.Number.the-variants as number
+use Rattle.targets.specs.declared.Table.the-variants as table
 
 -- ---- the steps of one instruction
 module _ (el : ℕ → Elem) (at : ℕ) (s : Entries) (e : ℕ) where

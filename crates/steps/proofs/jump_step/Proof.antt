@@ -5,19 +5,13 @@ use Rattle.steps.proofs.Laws.{past-one, first-one}
 use borrow.Author.Needs.{needs}
 use Rattle.steps.proofs.jump_step.Statement.{statement}
 use Rattle.steps.proofs.jump_step.Tie as tie
-use Rattle.steps.proofs.jump_step.Reads as reads
-use Rattle.steps.proofs.jump_step.Lts as lts
-use Rattle.steps.proofs.target_step.Reads as target-step-reads
 
--- src/lib.rt:97:9
 target-step-requires : tie.Need-target-step-requires
 target-step-requires c κs = search needs
 
--- src/lib.rt:93:1
 returns : tie.Need-returns
 returns c = c .target-step .ensures ∙ first-one (toTarget (c .before .before .args .target)) [] (c .before .before .args .k) (c .before .if1 .taken)
 
--- src/lib.rt:93:1
 returns-2 : tie.Need-returns-2
 returns-2 c = past-one _ _ (c .if1 .left)
 

@@ -7,92 +7,67 @@ use Rattle.steps.proofs.Laws.{last-first, last-second, first-one}
 use borrow.Author.Needs.{needs}
 use Rattle.steps.proofs.step_of.Statement.{statement}
 use Rattle.steps.proofs.step_of.Tie as tie
-use Rattle.steps.proofs.step_of.Reads as reads
-use Rattle.steps.proofs.step_of.Lts as lts
-use Rattle.steps.proofs.jump_step.Reads as jump-step-reads
-use Rattle.steps.proofs.last_step.Reads as last-step-reads
-use Rattle.steps.proofs.switch_step.Reads as switch-step-reads
-use Rattle.steps.proofs.target_step.Reads as target-step-reads
 
--- src/lib.rt:67:21
 enum-told : tie.Need-enum-told
 enum-told c = search needs
 
--- src/lib.rt:67:21
 last-step-requires : tie.Need-last-step-requires
 last-step-requires c κs = search needs
 
--- src/lib.rt:68:23
 enum-told-2 : tie.Need-enum-told-2
 enum-told-2 c = search needs
 
--- src/lib.rt:69:24
 enum-told-3 : tie.Need-enum-told-3
 enum-told-3 c = search needs
 
--- src/lib.rt:69:24
 jump-step-requires : tie.Need-jump-step-requires
 jump-step-requires c κs = search needs
 
--- src/lib.rt:71:16
 enum-told-4 : tie.Need-enum-told-4
 enum-told-4 c = search needs
 
--- src/lib.rt:72:17
 target-step-requires : tie.Need-target-step-requires
 target-step-requires c κs = search needs
 
--- src/lib.rt:74:17
 last-step-requires-2 : tie.Need-last-step-requires-2
 last-step-requires-2 c κs = search needs
 
--- src/lib.rt:77:28
 enum-told-5 : tie.Need-enum-told-5
 enum-told-5 c = search needs
 
--- src/lib.rt:77:28
 jump-step-requires-2 : tie.Need-jump-step-requires-2
 jump-step-requires-2 c κs = search needs
 
--- src/lib.rt:78:25
 enum-told-6 : tie.Need-enum-told-6
 enum-told-6 c = search needs
 
--- src/lib.rt:78:25
 switch-step-requires : tie.Need-switch-step-requires
 switch-step-requires c κs = search needs
 
--- src/lib.rt:60:1
 returns : tie.Need-returns
 unfolding waySteps
 returns c = let a = c .before .before .before .before .before .args in rw (c .before .enum-told .given .1) (last-first (a .k) (a .way .end) (c .last-step .ensures))
 
--- src/lib.rt:60:1
 returns-2 : tie.Need-returns-2
 unfolding waySteps
 returns-2 c = rw (c .enum-told2 .given .1) refl
 
--- src/lib.rt:60:1
 returns-3 : tie.Need-returns-3
 unfolding waySteps
 returns-3 c = rw (c .before .enum-told3 .given .1) (c .jump-step .ensures)
 
--- src/lib.rt:60:1
 returns-4 : tie.Need-returns-4
 unfolding waySteps
 returns-4 c = let a = c .before .before .before .before .before .before .args in rw (c .before .before .enum-told4 .given .1) (c .target-step .ensures ∙ first-one (toTarget (a .way .target)) (To (a .way .end) ∷ []) (a .k) (c .before .if1 .taken))
 
--- src/lib.rt:60:1
 returns-5 : tie.Need-returns-5
 unfolding waySteps
 returns-5 c = let a = c .before .before .before .before .before .before .args in rw (c .before .before .enum-told4 .given .1) (last-second _ (a .k) (a .way .end) (c .before .if1 .left) (c .last-step2 .ensures))
 
--- src/lib.rt:60:1
 returns-6 : tie.Need-returns-6
 unfolding waySteps
 returns-6 c = rw (c .before .enum-told5 .given .1) (c .jump-step2 .ensures)
 
--- src/lib.rt:60:1
 returns-7 : tie.Need-returns-7
 unfolding waySteps
 returns-7 c = rw (c .before .enum-told6 .given .1) (c .switch-step .ensures)

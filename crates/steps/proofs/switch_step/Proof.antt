@@ -4,60 +4,43 @@ use Rattle.steps.specs.mirror.Ways.{stepAs}
 use borrow.Author.Needs.{needs}
 use Rattle.steps.proofs.switch_step.Statement.{statement}
 use Rattle.steps.proofs.switch_step.Tie as tie
-use Rattle.steps.proofs.switch_step.Reads as reads
-use Rattle.steps.proofs.switch_step.Lts as lts
-use Rattle.steps.proofs.entry_step.Reads as entry-step-reads
-use Rattle.steps.proofs.last_step.Reads as last-step-reads
 
--- src/lib.rt:126:27
 enum-told : tie.Need-enum-told
 enum-told c = search needs
 
--- src/lib.rt:126:27
 last-step-requires : tie.Need-last-step-requires
 last-step-requires c κs = search needs
 
--- src/lib.rt:127:19
 enum-known-table : tie.Need-enum-known-table
 enum-known-table c = search needs
 
--- src/lib.rt:128:21
 cast-n : tie.Need-cast-n
 cast-n c = search needs
 
--- src/lib.rt:130:69
 cast-entry-step : tie.Need-cast-entry-step
 cast-entry-step c = search needs
 
--- src/lib.rt:130:17
 entry-step-requires : tie.Need-entry-step-requires
 entry-step-requires c κs = search needs
 
--- src/lib.rt:132:17
 last-step-requires-2 : tie.Need-last-step-requires-2
 last-step-requires-2 c κs = search needs
 
--- src/lib.rt:135:27
 enum-told-2 : tie.Need-enum-told-2
 enum-told-2 c = search needs
 
--- src/lib.rt:135:27
 last-step-requires-3 : tie.Need-last-step-requires-3
 last-step-requires-3 c κs = search needs
 
--- src/lib.rt:113:1
 returns : tie.Need-returns
 returns c = let a = c .before .before .before .before .before .args in rw (c .before .enum-told .given .1) (last-first (a .k) (a .e) (c .last-step .ensures))
 
--- src/lib.rt:113:1
 returns-2 : tie.Need-returns-2
 returns-2 c = let a = c .before .before .before .before .before .before .before .before .args in rw (c .before .before .before .before .table .given .1) (c .entry-step .ensures ∙ entry-zero _ (a .here) _ (a .e) _ (a .k) (c .before .if1 .taken))
 
--- src/lib.rt:113:1
 returns-3 : tie.Need-returns-3
 returns-3 c = let a = c .before .before .before .before .before .before .before .before .args in rw (c .before .before .before .before .table .given .1) (ap stepAs (c .last-step2 .ensures) ∙ entry-last _ (a .here) _ (a .e) 0 _ (a .k) (c .before .if1 .left))
 
--- src/lib.rt:113:1
 returns-4 : tie.Need-returns-4
 returns-4 c = let a = c .before .before .before .before .before .args in rw (c .before .enum-told2 .given .1) (last-first (a .k) (a .e) (c .last-step3 .ensures))
 

@@ -1,0 +1,54 @@
+use borrow.Author.Tests.{lt-ltb, le-ltb}
+use native.Mathlib.Omega.{arith}
+use Rattle.text.proofs.Put.{then}
+use Rattle.tables.specs.Texts.{intrinsicName}
+use borrow.Author.Needs.{needs}
+use Rattle.tables.proofs.names.put_intrinsic_name.Statement.{statement}
+use Rattle.tables.proofs.names.put_intrinsic_name.Tie as tie
+
+mul-name-at : tie.Need-mul-name-at
+mul-name-at c = search needs
+
+name-at-requires : tie.Need-name-at-requires
+name-at-requires c κs = search needs
+
+put-bytes-requires : tie.Need-put-bytes-requires
+put-bytes-requires c κs = search needs
+
+slice-aggregate-put-bytes : tie.Need-slice-aggregate-put-bytes
+slice-aggregate-put-bytes c = search needs
+
+put-bytes-requires-2 : tie.Need-put-bytes-requires-2
+put-bytes-requires-2 c κs = search needs
+
+put-decimal-requires : tie.Need-put-decimal-requires
+put-decimal-requires c κs = search needs
+
+same-length : tie.Need-same-length
+same-length c = search needs
+
+returns : tie.Need-returns
+unfolding intrinsicName
+returns c = rw (lt-ltb _ _ (c .before .before .before .before .before .if1 .taken), ← c .before .before .before .name-at .ensures) (c .before .before .put-bytes .ensures)
+
+same-length-2 : tie.Need-same-length-2
+same-length-2 c = search needs
+
+returns-2 : tie.Need-returns-2
+unfolding intrinsicName
+returns-2 c = rw (le-ltb _ _ (c .before .before .before .before .before .before .before .before .before .if1 .left)) (then (omega (arith, c .before .before .before .before .before .before .before .before .before .before .before .before .good)) (c .before .before .before .before .before .before .put-bytes2 .ensures) (c .before .before .put-decimal .ensures))
+
+pub put-intrinsic-name-spec : {M : Type 1} → statement M
+put-intrinsic-name-spec =
+    tie.close
+    (tie.spec
+    mul-name-at
+    name-at-requires
+    put-bytes-requires
+    slice-aggregate-put-bytes
+    put-bytes-requires-2
+    put-decimal-requires
+    same-length
+    returns
+    same-length-2
+    returns-2)

@@ -1,0 +1,235 @@
+// Names: row 2, and names as texts.
+use crate::NAME;
+use crate::NAME_SIZE;
+use crate::OPCODE_NAME;
+use crate::OPCODE_SIZE;
+use crate::TYPE_NAME;
+use crate::TYPE_SIZE;
+use refusal::Check;
+ghost use mathlib.Core.Path.{_≡_};
+ghost use Prim.Native.Nat.{_+_, _-_, _*_, _/_, _<_, _≤_, min};
+ghost use mathlib.Core.Bool.{not};
+ghost use lib.ListN.{length};
+ghost use Rattle.laws.specs.Scan.{firstFrom};
+ghost use Rattle.words.specs.Le.{leAt};
+ghost use Rattle.tables.specs.Names.{isName, notName, notZero, nameOk, isZero, nameAt, isNamed};
+ghost use Rattle.text.specs.Put.{Put};
+ghost use Rattle.tables.specs.Texts.{opName, typeName, runtimeName, intrinsicName};
+ghost use Rattle.tables.specs.Check.{checkNames, checkAllNames};
+
+// Whether the field of w bytes at place at holds this name. A field behind the end is empty.
+pub fn name_is(s: &[u8], at: usize, w: u8, name: &[u8]) -> bool
+    ensures { λ r. ⌜ r ≡ isNamed (now (s .entry)) at w (now (name .entry)) ⌝ }
+{
+    if s.len() <= at {
+        return field_is(b"", 0, w, name);
+    }
+    field_is(s, at, w, name)
+}
+
+// The name in the field of w bytes at place at.
+pub fn name_at<'a>(s: &'a [u8], at: usize, w: u8) -> &'a [u8]
+    ensures { λ r. ⌜ now r ≡ nameAt (now (s .entry)) at w ⌝ }
+{
+    if s.len() <= at {
+        return &s[0..0];
+    }
+    let to = at + w as usize;
+    let e = zero_from(s, at, to);
+    &s[at..e]
+}
+
+// An opcode's plain name.
+pub fn op_name<'a>(opcodes: &'a [u8], op: u8) -> &'a [u8]
+    ensures { λ r. ⌜ now r ≡ opName (now (opcodes .entry)) op ⌝ }
+{
+    name_at(opcodes, (op as usize) * OPCODE_SIZE, OPCODE_NAME)
+}
+
+pub fn type_name<'a>(types: &'a [u8], t: u8) -> &'a [u8]
+    ensures { λ r. ⌜ now r ≡ typeName (now (types .entry)) t ⌝ }
+{
+    name_at(types, (t as usize) * TYPE_SIZE, TYPE_NAME)
+}
+
+// The name of a runtime function, or its number where there is none.
+pub fn put_runtime_name(out: &mut [u8], at: usize, runtime: &[u8], id: u32) -> usize
+    ensures { λ r. ⌜ Put (now (out .entry)) at (runtimeName (now (runtime .entry)) id) (now (out .exit)) r ⌝ }
+{
+    if (id as usize) < runtime.len() / NAME_SIZE {
+        text::put_bytes(out, at, name_at(runtime, (id as usize) * NAME_SIZE, NAME))
+    } else {
+        text::put_decimal(out, at, id as u64)
+    }
+}
+
+// The name of an intrinsic, or `intrinsic` and its number where there is none.
+pub fn put_intrinsic_name(out: &mut [u8], at: usize, intrinsic: &[u8], id: u32) -> usize
+    ensures { λ r. ⌜ Put (now (out .entry)) at (intrinsicName (now (intrinsic .entry)) id) (now (out .exit)) r ⌝ }
+{
+    if (id as usize) < intrinsic.len() / NAME_SIZE {
+        text::put_bytes(out, at, name_at(intrinsic, (id as usize) * NAME_SIZE, NAME))
+    } else {
+        let p = text::put_bytes(out, at, b"intrinsic");
+        text::put_decimal(out, p, id as u64)
+    }
+}
+
+// Names: row 2.
+
+pub(crate) fn check_all_names(
+    opcodes: &[u8],
+    types: &[u8],
+    runtime: &[u8],
+    intrinsic: &[u8],
+) -> Check
+    ensures { λ r. ⌜ r ≡ checkAllNames (now (opcodes .entry)) (now (types .entry)) (now (runtime .entry)) (now (intrinsic .entry)) ⌝ }
+{
+    let rest = refusal::first_refusal(
+        check_names(runtime, NAME_SIZE, NAME),
+        check_names(intrinsic, NAME_SIZE, NAME),
+    );
+    let rest = refusal::first_refusal(check_names(types, TYPE_SIZE, TYPE_NAME), rest);
+    refusal::first_refusal(check_names(opcodes, OPCODE_SIZE, OPCODE_NAME), rest)
+}
+
+// The first of the records whose name, its first w bytes, is bad.
+fn check_names(s: &[u8], size: usize, w: u8) -> Check
+    requires { ⌜ (0 < size) × (w ≤ size) ⌝ }
+    ensures { λ r. ⌜ r ≡ checkNames size w (now (s .entry)) ⌝ }
+{
+    let n = s.len() / size;
+    let mut i = 0;
+    while i < n {
+        if !name_ok(s, i * size, w) {
+            return refusal::at_record(refusal::BAD_NAME, i, n);
+        }
+        i += 1;
+    }
+    refusal::at_record(refusal::BAD_NAME, i, n)
+}
+
+// Whether the field of w bytes at place at has a good name.
+fn name_ok(s: &[u8], at: usize, w: u8) -> bool
+    requires { ⌜ at + w ≤ length (now s) ⌝ }
+    ensures { λ r. ⌜ r ≡ nameOk (now (s .entry)) at w ⌝ }
+{
+    let to = at + w as usize;
+    let e = name_end(s, at, to);
+    if e <= at {
+        return false;
+    }
+    zeros_end(s, e, to) == to
+}
+
+// A letter, a digit or an underscore; small letters, which are most, by the first test.
+fn is_name(b: u8) -> bool
+    ensures { λ r. ⌜ r ≡ isName b ⌝ }
+{
+    if 97 <= b {
+        b <= 122
+    } else if 65 <= b {
+        if b == 95 { true } else { b <= 90 }
+    } else if 48 <= b {
+        b <= 57
+    } else {
+        false
+    }
+}
+
+// The first place from from, below to, whose byte is no part of a name; to where there is none.
+fn name_end(s: &[u8], from: usize, to: usize) -> usize
+    ensures { λ r. ⌜ r ≡ firstFrom (notName (now (s .entry))) from (to - from) ⌝ }
+{
+    let mut i = from;
+    while i < to {
+        if !is_name(words::byte_at(s, i)) {
+            return i;
+        }
+        i += 1;
+    }
+    i
+}
+
+// The first place from from, below to, whose byte is not zero; to where there is none.
+pub(crate) fn zeros_end(s: &[u8], from: usize, to: usize) -> usize
+    requires { ⌜ to ≤ length (now s) ⌝ }
+    ensures { λ r. ⌜ r ≡ firstFrom (notZero (now (s .entry))) from (to - from) ⌝ }
+{
+    if to <= from {
+        return from;
+    }
+    let field = &s[from..to];
+    let i = zero_words(field);
+    from + first_set(field, i)
+}
+
+// The place behind the words of eight zero bytes that a field begins with: a search may start there.
+fn zero_words(field: &[u8]) -> usize
+    ensures { λ r. ⌜ firstFrom (notZero (now (field .entry))) 0 (length (now (field .entry)))
+        ≡ firstFrom (notZero (now (field .entry))) r (length (now (field .entry)) - r) ⌝ }
+{
+    let mut i = 0;
+    while 8 <= field.len() - i {
+        if words::u64_at(field, i) != 0 {
+            return i;
+        }
+        i += 8;
+    }
+    i
+}
+
+// The first place of a field from from on whose byte is not zero; its end where there is none.
+fn first_set(field: &[u8], from: usize) -> usize
+    ensures { λ r. ⌜ r ≡ firstFrom (notZero (now (field .entry))) from (length (now (field .entry)) - from) ⌝ }
+{
+    let mut i = from;
+    while i < field.len() {
+        if field[i] != 0 {
+            return i;
+        }
+        i += 1;
+    }
+    i
+}
+
+// Whether the field of w bytes at place at holds this name: eight bytes are compared at once.
+fn field_is(s: &[u8], at: usize, w: u8, name: &[u8]) -> bool
+    requires { ⌜ at ≤ length (now s) ⌝ }
+    ensures { λ r. ⌜ r ≡ isNamed (now (s .entry)) at w (now (name .entry)) ⌝ }
+{
+    let end = w as usize;
+    let mut i = 0;
+    while i < end {
+        let n = end - i;
+        if word_at(s, at + i, n) != word_at(name, i, n) {
+            return false;
+        }
+        i += 8;
+    }
+    true
+}
+
+// The number that n bytes from place i hold, at most eight of them; for eight it is one load.
+fn word_at(s: &[u8], i: usize, n: usize) -> u64
+    ensures { λ r. ⌜ r ≡ leAt (now (s .entry)) i (min n 8) ⌝ }
+{
+    if n < 8 {
+        return words::le_at(s, i, n);
+    }
+    words::u64_at(s, i)
+}
+
+// The first place from from, below to, whose byte is zero; to where there is none.
+fn zero_from(s: &[u8], from: usize, to: usize) -> usize
+    ensures { λ r. ⌜ r ≡ firstFrom (isZero (now (s .entry))) from (to - from) ⌝ }
+{
+    let mut i = from;
+    while i < to {
+        if words::byte_at(s, i) == 0 {
+            return i;
+        }
+        i += 1;
+    }
+    i
+}

@@ -1,0 +1,295 @@
+// Opcode and type records: rows 3 and 4, and what is read of them.
+use crate::FIXED_TYPES;
+use crate::OPCODE_SIZE;
+use crate::Prefixes;
+use crate::TYPE_NAME;
+use crate::TYPE_SIZE;
+use refusal::Check;
+ghost use mathlib.Core.Path.{_≡_};
+ghost use Prim.Native.Nat.{_+_, _-_, _*_, _/_, _<_, _≤_, min};
+ghost use lib.ListN.{length};
+ghost use Rattle.laws.specs.Scan.{firstFrom};
+ghost use Rattle.tables.specs.Records.{opcodeSize, opcodeStart, opcodeCount, typeCount, typeNameSize, typeNames, fixedTypes, operandCount, typeCode, width, prefixOp, prefixesOf, hasTypeName, nameFits, sizeFits, sizeGood, typeOk, typeFault, noType, opcodeOk, opcodeFault};
+ghost use Rattle.tables.specs.mirror.Rows.{rows};
+ghost use Rattle.tables.specs.Check.{checkOpcodes, checkTypes};
+
+// The width of an operand of type code t at a scale, at most 8.
+pub fn type_width(types: &[u8], t: u8, scale: u8) -> usize
+    ensures { λ r. ⌜ r ≡ width (now (types .entry)) t scale ⌝ }
+{
+    let at = (t as usize) * TYPE_SIZE;
+    if words::byte_at(types, at + 30) != 1 {
+        return at_most_8(scale as usize);
+    }
+    let size = words::byte_at(types, at + 28) as usize;
+    if words::byte_at(types, at + 29) == 1 {
+        at_most_8(size * (scale as usize))
+    } else {
+        at_most_8(size)
+    }
+}
+
+// How many whole opcode records there are.
+pub fn opcode_count(opcodes: &[u8]) -> usize
+    ensures { λ r. ⌜ r ≡ opcodeCount (now (opcodes .entry)) ⌝ }
+{
+    opcodes.len() / OPCODE_SIZE
+}
+
+// Where an opcode's record starts.
+pub fn opcode_start(op: u8) -> usize
+    ensures { λ r. ⌜ r ≡ opcodeStart op ⌝ }
+{
+    (op as usize) * OPCODE_SIZE
+}
+
+// How many operands an opcode has.
+pub fn operand_count(opcodes: &[u8], op: u8) -> u8
+    ensures { λ r. ⌜ r ≡ operandCount (now (opcodes .entry)) op ⌝ }
+{
+    words::byte_at(opcodes, (op as usize) * OPCODE_SIZE + 41)
+}
+
+// The type code of an opcode's operand k.
+pub fn type_code(opcodes: &[u8], op: u8, k: u8) -> u8
+    ensures { λ r. ⌜ r ≡ typeCode (now (opcodes .entry)) op k ⌝ }
+{
+    words::byte_at(opcodes, (op as usize) * OPCODE_SIZE + (42 + (k as usize)))
+}
+
+// The first record marked Wide and the first marked ExtraWide.
+pub fn prefix_ops(opcodes: &[u8]) -> Prefixes
+    ensures { λ r. ⌜ r ≡ prefixesOf (now (opcodes .entry)) ⌝ }
+{
+    Prefixes {
+        wide: prefix_op(opcodes, 1),
+        extra_wide: prefix_op(opcodes, 2),
+    }
+}
+
+// Opcode records: row 3.
+
+pub(crate) fn check_opcodes(opcodes: &[u8], types: &[u8]) -> Check
+    ensures { λ r. ⌜ r ≡ checkOpcodes (opcodeFault (now (opcodes .entry)) (typeCount (now (types .entry)))) (now (opcodes .entry)) ⌝ }
+{
+    let known = types.len() / TYPE_SIZE;
+    let n = opcodes.len() / OPCODE_SIZE;
+    let mut i = 0;
+    while i < n {
+        let fault = opcode_fault(opcodes, i, known);
+        if fault != 0 {
+            return refusal::at_record(fault, i, n);
+        }
+        i += 1;
+    }
+    Check::Ok
+}
+
+// What is wrong with an opcode record, by 01's number; known types exist.
+fn opcode_fault(opcodes: &[u8], op: usize, known: usize) -> u8
+    requires { ⌜ op < opcodeCount (now opcodes) ⌝ }
+    ensures { λ r. ⌜ r ≡ opcodeFault (now (opcodes .entry)) known op ⌝ }
+{
+    if opcode_ok(opcodes, op * OPCODE_SIZE, known) {
+        0
+    } else {
+        refusal::BAD_OPCODE
+    }
+}
+
+// Whether the opcode record at place at is good but for its name; known types exist.
+fn opcode_ok(s: &[u8], at: usize, known: usize) -> bool
+    requires { ⌜ at + opcodeSize ≤ length (now s) ⌝ }
+    ensures { λ r. ⌜ r ≡ opcodeOk (now (s .entry)) at known ⌝ }
+{
+    if words::byte_at(s, at + 40) > 2 {
+        return false;
+    }
+    let count = words::byte_at(s, at + 41) as usize;
+    if count > 8 {
+        return false;
+    }
+    let codes = at + 42;
+    let used = codes + count;
+    if types_end(s, codes, used, known) != used {
+        return false;
+    }
+    let end = at + OPCODE_SIZE;
+    crate::names::zeros_end(s, used, end) == end
+}
+
+// The first place from from, below to, whose byte is no type's number; to where there is none.
+fn types_end(s: &[u8], from: usize, to: usize, known: usize) -> usize
+    ensures { λ r. ⌜ r ≡ firstFrom (noType (now (s .entry)) known) from (to - from) ⌝ }
+{
+    let mut i = from;
+    while i < to {
+        if known <= words::byte_at(s, i) as usize {
+            return i;
+        }
+        i += 1;
+    }
+    i
+}
+
+// The first record with this prefix mark.
+fn prefix_op(opcodes: &[u8], mark: u8) -> u16
+    ensures { λ r. ⌜ r ≡ prefixOp (now (opcodes .entry)) mark ⌝ }
+{
+    let n = at_most_256(opcodes.len() / OPCODE_SIZE);
+    let mut i: u16 = 0;
+    while i < n {
+        if words::byte_at(opcodes, (i as usize) * OPCODE_SIZE + 40) == mark {
+            return i;
+        }
+        i += 1;
+    }
+    256
+}
+
+fn at_most_256(n: usize) -> u16
+    ensures { λ r. ⌜ r ≡ min n 256 ⌝ }
+{
+    if n < 256 { n as u16 } else { 256 }
+}
+
+fn at_most_8(n: usize) -> usize
+    ensures { λ r. ⌜ r ≡ min n 8 ⌝ }
+{
+    if n < 8 { n } else { 8 }
+}
+
+// Type records: row 4.
+
+pub(crate) fn check_types(types: &[u8]) -> Check
+    ensures { λ r. ⌜ r ≡ checkTypes (typeFault (now (types .entry))) (now (types .entry)) ⌝ }
+{
+    check_type_records(types, &TYPE_NAMES)
+}
+
+// The names of the first types, each filled up with zeros.
+const TYPE_NAMES: [u8; 476] = *b"\
+    Reg\0\0\0\0\0\0\0\0\0\0\0\0\0\0\0\0\0\0\0\0\0\0\0\0\0\
+    RegOut\0\0\0\0\0\0\0\0\0\0\0\0\0\0\0\0\0\0\0\0\0\0\
+    RegInOut\0\0\0\0\0\0\0\0\0\0\0\0\0\0\0\0\0\0\0\0\
+    RegPair\0\0\0\0\0\0\0\0\0\0\0\0\0\0\0\0\0\0\0\0\0\
+    RegOutPair\0\0\0\0\0\0\0\0\0\0\0\0\0\0\0\0\0\0\
+    RegOutTriple\0\0\0\0\0\0\0\0\0\0\0\0\0\0\0\0\
+    RegList\0\0\0\0\0\0\0\0\0\0\0\0\0\0\0\0\0\0\0\0\0\
+    RegOutList\0\0\0\0\0\0\0\0\0\0\0\0\0\0\0\0\0\0\
+    RegCount\0\0\0\0\0\0\0\0\0\0\0\0\0\0\0\0\0\0\0\0\
+    Imm\0\0\0\0\0\0\0\0\0\0\0\0\0\0\0\0\0\0\0\0\0\0\0\0\0\
+    Idx\0\0\0\0\0\0\0\0\0\0\0\0\0\0\0\0\0\0\0\0\0\0\0\0\0\
+    UImm\0\0\0\0\0\0\0\0\0\0\0\0\0\0\0\0\0\0\0\0\0\0\0\0\
+    NativeContextIndex\0\0\0\0\0\0\0\0\0\0\
+    Flag8\0\0\0\0\0\0\0\0\0\0\0\0\0\0\0\0\0\0\0\0\0\0\0\
+    Flag16\0\0\0\0\0\0\0\0\0\0\0\0\0\0\0\0\0\0\0\0\0\0\
+    RuntimeId\0\0\0\0\0\0\0\0\0\0\0\0\0\0\0\0\0\0\0\
+    IntrinsicId\0\0\0\0\0\0\0\0\0\0\0\0\0\0\0\0\0";
+
+fn check_type_records(types: &[u8], names: &[u8]) -> Check
+    requires { ⌜ now names ≡ rows typeNameSize typeNames ⌝ }
+    ensures { λ r. ⌜ r ≡ checkTypes (typeFault (now (types .entry))) (now (types .entry)) ⌝ }
+{
+    let n = types.len() / TYPE_SIZE;
+    let mut i = 0;
+    while i < n {
+        let fault = type_fault(types, i, names);
+        if fault != 0 {
+            return refusal::at_record(fault, i, n);
+        }
+        i += 1;
+    }
+    Check::Ok
+}
+
+// What is wrong with type record t, by 01's number.
+fn type_fault(types: &[u8], t: usize, names: &[u8]) -> u8
+    requires { ⌜ (t < typeCount (now types)) × (now names ≡ rows typeNameSize typeNames) ⌝ }
+    ensures { λ r. ⌜ r ≡ typeFault (now (types .entry)) t ⌝ }
+{
+    if type_ok(types, t, names) {
+        0
+    } else {
+        refusal::BAD_TYPE
+    }
+}
+
+// Whether type record t is good but for the form of its name.
+fn type_ok(types: &[u8], t: usize, names: &[u8]) -> bool
+    requires { ⌜ (t < typeCount (now types)) × (now names ≡ rows typeNameSize typeNames) ⌝ }
+    ensures { λ r. ⌜ r ≡ typeOk (now (types .entry)) t ⌝ }
+{
+    let at = t * TYPE_SIZE;
+    let size = words::byte_at(types, at + 28);
+    let scalable = words::byte_at(types, at + 29);
+    if !size_fits(size, scalable, words::byte_at(types, at + 30)) {
+        return false;
+    }
+    if words::byte_at(types, at + 31) != 0 {
+        return false;
+    }
+    name_fits(types, t, names)
+}
+
+// Whether a size, scalable and present byte go together.
+fn size_fits(size: u8, scalable: u8, present: u8) -> bool
+    ensures { λ r. ⌜ r ≡ sizeFits size scalable present ⌝ }
+{
+    if present == 0 {
+        if size == 0 { scalable == 0 } else { false }
+    } else if present == 1 {
+        size_good(size, scalable)
+    } else {
+        false
+    }
+}
+
+fn size_good(size: u8, scalable: u8) -> bool
+    ensures { λ r. ⌜ r ≡ sizeGood size scalable ⌝ }
+{
+    if size == 4 {
+        return scalable == 0;
+    }
+    if size == 1 {
+        return scalable <= 1;
+    }
+    if size == 2 { scalable <= 1 } else { false }
+}
+
+// Whether type record t has its own name of the 17, or, behind them, none of these.
+fn name_fits(types: &[u8], t: usize, names: &[u8]) -> bool
+    requires { ⌜ (t < typeCount (now types)) × (now names ≡ rows typeNameSize typeNames) ⌝ }
+    ensures { λ r. ⌜ r ≡ nameFits (now (types .entry)) t ⌝ }
+{
+    let at = t * TYPE_SIZE;
+    if t < FIXED_TYPES {
+        has_type_name(types, at, names, t)
+    } else {
+        type_name_of(types, at, names) == FIXED_TYPES
+    }
+}
+
+// The first of the 17 names that the type record at place at has; 17 where it has none.
+fn type_name_of(types: &[u8], at: usize, names: &[u8]) -> usize
+    requires { ⌜ now names ≡ rows typeNameSize typeNames ⌝ }
+    ensures { λ r. ⌜ r ≡ firstFrom (hasTypeName (now (types .entry)) at) 0 fixedTypes ⌝ }
+{
+    let mut k = 0;
+    while k < FIXED_TYPES {
+        if has_type_name(types, at, names, k) {
+            return k;
+        }
+        k += 1;
+    }
+    k
+}
+
+// Whether the type record at place at has name k of the 17, which is row k of the names.
+fn has_type_name(s: &[u8], at: usize, names: &[u8], k: usize) -> bool
+    requires { ⌜ (k < fixedTypes) × (now names ≡ rows typeNameSize typeNames) ⌝ }
+    ensures { λ r. ⌜ r ≡ hasTypeName (now (s .entry)) at k ⌝ }
+{
+    let row = k * 28;
+    crate::names::name_is(s, at, TYPE_NAME, &names[row..row + 28])
+}
