@@ -1,9 +1,12 @@
 // One instruction at a place of the code.
 ghost use mathlib.Core.Path.{_≡_};
-ghost use Prim.Native.Nat.{_<_};
+ghost use Prim.Native.Nat.{_<_, _≤_};
+ghost use lib.IntN.{ℤ};
 ghost use lib.ListN.{length};
 ghost use Rattle.flow.specs.Opcodes.{opcodesOf};
-ghost use Rattle.decoder.specs.Decode.{decodeAt};
+ghost use Rattle.decoder.specs.declared.Head.the-variants as head;
+ghost use Rattle.decoder.specs.Decode.{operandTypes, decodeHead, decodeAt};
+ghost use Rattle.decoder.specs.mirror.Extent.{sizeOf, sizeFrom, extentOf};
 ghost use Rattle.decoder.specs.mirror.Steps.{operandsAt, ofOps, stepsAt};
 ghost use Rattle.decoder.specs.Head.{blank, opAt, behind, headAt};
 use operand::Operand;
@@ -38,6 +41,14 @@ pub struct Decoded {
     pub instr: Instr,
 }
 
+// An instruction without its operands: what a pass needs that only goes from one to the next. All 0 unless the outcome is Done.
+pub struct Extent {
+    pub outcome: Outcome,
+    pub opcode: u8,
+    pub scale: u8,
+    pub end: usize,
+}
+
 // The opcode at a place, behind any prefix.
 pub enum Head {
     End,
@@ -67,6 +78,28 @@ pub fn decode_at(
     ensures { λ r. ⌜ r ≡ decodeAt (now (code .entry)) (opcodesOf (now (opcodes .entry))) (now (types .entry)) start «reg_file_start» wide extra ⌝ }
 {
     decode_steps(code, opcodes, types, start, reg_file_start, wide, extra)
+}
+
+// The extent of the instruction at a place: decoding by sizes alone. Operands are read only where the code ends too early.
+pub fn extent_at(
+    code: &[u8],
+    opcodes: &[u8],
+    types: &[u8],
+    start: usize,
+    wide: usize,
+    extra: usize,
+) -> Extent
+    ensures { λ r. ⌜ ((rfs : ℤ) → r ≡ extentOf (decodeAt (now (code .entry)) (opcodesOf (now (opcodes .entry))) (now (types .entry))
+        start rfs wide extra)) ⌝ }
+{
+    let ops = tables::opcode_count(opcodes);
+    match head_at(code, ops, start, wide, extra) {
+        Head::End => no_extent(Outcome::End),
+        Head::Refused(refusal) => no_extent(Outcome::Refused(refusal)),
+        Head::Op { opcode, scale, at } => {
+            extent_op(code, opcodes, types, start, opcode, scale, at)
+        }
+    }
 }
 
 // No instruction.
@@ -216,6 +249,82 @@ fn no_instr(outcome: Outcome, k: usize) -> Decoded
             operands: slots,
         },
     }
+}
+
+fn no_extent(outcome: Outcome) -> Extent
+    ensures { λ r. ⌜ r ≡ extentOf (record { outcome = outcome; instr = blank }) ⌝ }
+{
+    Extent {
+        outcome,
+        opcode: 0,
+        scale: 0,
+        end: 0,
+    }
+}
+
+// The extent of the instruction with this opcode, whose operands begin at place at.
+fn extent_op(
+    code: &[u8],
+    opcodes: &[u8],
+    types: &[u8],
+    start: usize,
+    opcode: u8,
+    scale: u8,
+    at: usize,
+) -> Extent
+    ensures { λ r. ⌜ ((rfs : ℤ) → r ≡ extentOf (decodeHead (head.Op opcode scale at)
+        (now (code .entry)) (opcodesOf (now (opcodes .entry))) (now (types .entry)) start rfs)) ⌝ }
+{
+    let size = operands_size(opcodes, types, opcode, scale);
+    if operand::within_len(code.len(), at, size) {
+        return Extent {
+            outcome: Outcome::Done,
+            opcode,
+            scale,
+            end: at + size,
+        };
+    }
+    let d = decode_op(code, opcodes, types, start, opcode, scale, 0, at);
+    let outcome = d.outcome;
+    let instr = d.instr;
+    Extent {
+        outcome,
+        opcode: instr.opcode,
+        scale: instr.scale,
+        end: instr.end,
+    }
+}
+
+// How many bytes the operands of an opcode take at a scale.
+fn operands_size(opcodes: &[u8], types: &[u8], opcode: u8, scale: u8) -> usize
+    ensures { λ r. ⌜ r ≡ sizeFrom (now (types .entry)) scale 0 (operandTypes (opcodesOf (now (opcodes .entry))) opcode) ⌝ }
+{
+    let all = tables::operand_count(opcodes, opcode);
+    let n = if all < 8 { all } else { 8 };
+    let mut size: usize = 0;
+    let mut before: u8 = 0;
+    let mut k: u8 = 0;
+    while k < n {
+        let t = tables::type_code(opcodes, opcode, k);
+        size += type_size(types, scale, before, t);
+        before = t;
+        k += 1;
+    }
+    size
+}
+
+// How many bytes an operand of type code t takes, with the count that a list reads; before is the type code before it.
+fn type_size(types: &[u8], scale: u8, before: u8, t: u8) -> usize
+    ensures { λ r. ⌜ (r ≡ sizeOf (now (types .entry)) scale before t) × (r ≤ 16) ⌝ }
+{
+    if operand::counted(t, before) {
+        return 0;
+    }
+    let w = tables::type_width(types, t, scale);
+    if !operand::is_list(t) {
+        return w;
+    }
+    w + tables::type_width(types, 8, scale)
 }
 
 // The instruction at a place, step by step.
