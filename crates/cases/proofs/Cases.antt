@@ -11,7 +11,7 @@ use Rattle.tables.specs.Layout.{ranges, rangeOf, layoutOf}
 use Rattle.tables.specs.Texts.{runtimeName}
 use Rattle.tables.specs.Check.{wholeRecords, checkTable}
 use Rattle.operand.specs.Operand.{kinds, kindOf, ofKind, interpret, isList}
-use Rattle.decoder.specs.Head.{headAt}
+use Rattle.prefix.specs.Head.{headAt}
 use Rattle.decoder.specs.Decode.{partsFrom, readParts, decodeAt}
 use Rattle.decoder.specs.Listed.{listFrom}
 use Rattle.bytecode.specs.Decode.{decodeOne}

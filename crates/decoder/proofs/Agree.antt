@@ -24,10 +24,11 @@ use Rattle.operand.specs.declared.Step.the-variants.{Skip, Short, Read}
 use Rattle.decoder.specs.declared.OperandRecord.{OperandRecord}
 use Rattle.decoder.specs.declared.Operands.{Operands}
 use Rattle.decoder.specs.declared.Outcome.{Outcome}
-use Rattle.decoder.specs.declared.Head.{Head}
+use Rattle.prefix.specs.declared.Head.{Head}
 use Rattle.decoder.specs.declared.Decoded.{Decoded}
 use Rattle.decoder.specs.mirror.Steps.{startOps, afterStep, stepOps, runOps, operandsAt, ofOps, ofHead, stepsAt}
-use Rattle.decoder.specs.Head.{blank, headAt}
+use Rattle.decoder.specs.Decode.{blank}
+use Rattle.prefix.specs.Head.{headAt}
 use Rattle.decoder.proofs.Laws.{not-list}
 use Rattle.decoder.specs.Decode.{codesFrom, operandTypes, Part, own, count, partsFrom, partWidth, offsetOf, operandAtPart, operandsFrom, isShort, shortNumber, recordOf, recordsOf, instrOf, refusedAt, readParts, decodeHead, decodeAt}
 

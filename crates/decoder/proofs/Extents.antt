@@ -18,8 +18,8 @@ use Rattle.flow.specs.Opcodes.{Opcodes}
 use Rattle.decoder.specs.declared.Extent.{Extent}
 use Rattle.decoder.specs.declared.Decoded.{Decoded}
 use Rattle.decoder.specs.declared.Outcome.{Outcome}
-use Rattle.decoder.specs.declared.Head.{Head}
-use Rattle.decoder.specs.Head.{headAt}
+use Rattle.prefix.specs.declared.Head.{Head}
+use Rattle.prefix.specs.Head.{headAt}
 use Rattle.decoder.specs.Decode.{codesFrom, Part, own, count, partsFrom, partWidth, offsetOf, isShort, readParts, decodeHead, decodeAt}
 use Rattle.decoder.proofs.Laws.{not-list}
 use Rattle.decoder.specs.mirror.Extent.{sizeOf, sizeFrom, extentOf}

@@ -4,13 +4,13 @@ ghost use Prim.Native.Nat.{_<_, _≤_};
 ghost use lib.IntN.{ℤ};
 ghost use lib.ListN.{length};
 ghost use Rattle.flow.specs.Opcodes.{opcodesOf};
-ghost use Rattle.decoder.specs.declared.Head.the-variants as head;
-ghost use Rattle.decoder.specs.Decode.{operandTypes, decodeHead, decodeAt};
+ghost use Rattle.prefix.specs.declared.Head.the-variants as head;
+ghost use Rattle.decoder.specs.Decode.{blank, operandTypes, decodeHead, decodeAt};
 ghost use Rattle.decoder.specs.mirror.Extent.{sizeOf, sizeFrom, extentOf};
 ghost use Rattle.decoder.specs.mirror.Steps.{operandsAt, ofOps, stepsAt};
-ghost use Rattle.decoder.specs.Head.{blank, opAt, behind, headAt};
 use operand::Operand;
 use operand::Step;
+use prefix::Head;
 use refusal::Refusal;
 
 // One of an instruction's eight operands.
@@ -47,13 +47,6 @@ pub struct Extent {
     pub opcode: u8,
     pub scale: u8,
     pub end: usize,
-}
-
-// The opcode at a place, behind any prefix.
-pub enum Head {
-    End,
-    Refused(Refusal),
-    Op { opcode: u8, scale: u8, at: usize },
 }
 
 // Operands as far as they are read, for contracts: before is the type code of the last one.
@@ -93,7 +86,7 @@ pub fn extent_at(
         start rfs wide extra)) ⌝ }
 {
     let ops = tables::opcode_count(opcodes);
-    match head_at(code, ops, start, wide, extra) {
+    match prefix::head_at(code, ops, start, wide, extra) {
         Head::End => no_extent(Outcome::End),
         Head::Refused(refusal) => no_extent(Outcome::Refused(refusal)),
         Head::Op { opcode, scale, at } => {
@@ -117,63 +110,6 @@ pub fn blank_instr() -> Instr
         count: 0,
         operands: [none; 8],
     }
-}
-
-// The opcode at place at, if a record has it; ops is the number of opcodes.
-fn op_at(code: &[u8], ops: usize, start: usize, scale: u8, at: usize) -> Head
-    requires { ⌜ at < length (now code) ⌝ }
-    ensures { λ r. ⌜ r ≡ opAt (now (code .entry)) ops start scale at ⌝ }
-{
-    let opcode = words::byte_at(code, at);
-    if ops <= opcode as usize {
-        return Head::Refused(Refusal {
-            number: refusal::NO_OPCODE,
-            place: start,
-        });
-    }
-    Head::Op {
-        opcode,
-        scale,
-        at: at + 1,
-    }
-}
-
-// The opcode behind a prefix at start; number is the refusal where the code ends there.
-fn behind_prefix(code: &[u8], ops: usize, start: usize, number: u8, scale: u8) -> Head
-    requires { ⌜ start < length (now code) ⌝ }
-    ensures { λ r. ⌜ r ≡ behind (now (code .entry)) ops start number scale ⌝ }
-{
-    let next = start + 1;
-    if next == code.len() {
-        return Head::Refused(Refusal {
-            number,
-            place: start,
-        });
-    }
-    op_at(code, ops, start, scale, next)
-}
-
-// The opcode at a place; wide and extra are the opcodes of the prefixes.
-fn head_at(code: &[u8], ops: usize, start: usize, wide: usize, extra: usize) -> Head
-    ensures { λ r. ⌜ r ≡ headAt (now (code .entry)) ops start wide extra ⌝ }
-{
-    if code.len() < start {
-        return Head::Refused(Refusal {
-            number: refusal::BEYOND_CODE,
-            place: start,
-        });
-    }
-    if start == code.len() {
-        return Head::End;
-    }
-    let prefix = words::byte_at(code, start) as usize;
-    if prefix == wide {
-        return behind_prefix(code, ops, start, refusal::ENDS_AFTER_WIDE, 2);
-    }
-    if prefix == extra {
-        return behind_prefix(code, ops, start, refusal::ENDS_AFTER_EXTRA_WIDE, 4);
-    }
-    op_at(code, ops, start, 1, start)
 }
 
 // The instruction with this opcode at a place: its operands begin at place at.
@@ -339,7 +275,7 @@ fn decode_steps(
 ) -> Decoded
     ensures { λ r. ⌜ r ≡ stepsAt (now (code .entry)) (opcodesOf (now (opcodes .entry))) (now (types .entry)) start «reg_file_start» wide extra ⌝ }
 {
-    match head_at(code, tables::opcode_count(opcodes), start, wide, extra) {
+    match prefix::head_at(code, tables::opcode_count(opcodes), start, wide, extra) {
         Head::End => no_instr(Outcome::End, start % 8),
         Head::Refused(refusal) => no_instr(Outcome::Refused(refusal), start % 8),
         Head::Op { opcode, scale, at } => decode_op(

@@ -3,7 +3,7 @@ use Prim.Native.Nat.{ℕ}
 use denote.Ref.{now}
 use Rattle.tables.specs.Records.{opcodeCount}
 use Rattle.flow.specs.Opcodes.{opcodesOf}
-use Rattle.decoder.specs.Head.{headAt}
+use Rattle.prefix.specs.Head.{headAt}
 use Rattle.decoder.proofs.Extents.{extent-by}
 use borrow.Author.Needs.{needs}
 use Rattle.decoder.proofs.extent_at.Statement.{statement}

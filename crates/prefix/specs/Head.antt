@@ -4,15 +4,9 @@ use Prim.Native.Nat.{ℕ, _+_}
 use mathlib.Core.List.{List}
 use mathlib.Core.Bool.{cond}
 use lib.Dec.{leb, ltb, eqb}
-use lib.ListN.{length, getD, replicate}
+use lib.ListN.{length, getD}
 use Rattle.refusal.specs.Check.{refusalAt}
-use Rattle.operand.specs.declared.Operand.the-variants.{Nothing}
-use Rattle.decoder.specs.declared.Instr.{Instr}
-use Rattle.decoder.specs.declared.Head.{Head}
-
--- no instruction: what stands in an answer that has none
-abbrev pub blank : Instr
-blank = record { offset = 0; opcode = 0; scale = 0; end = 0; count = 0; operands = replicate 8 (record { operand = Nothing }) }
+use Rattle.prefix.specs.declared.Head.{Head}
 
 -- the opcode at place at with a scale, if a record has it: number 13 at the instruction's start where none has
 abbrev pub opAt : List ℕ → ℕ → ℕ → ℕ → ℕ → Head
