@@ -16,7 +16,7 @@ use Rattle.refusal.specs.declared.Check.the-variants.{Ok, Refused}
 use Rattle.refusal.specs.Check.{guarded, firstRefusal}
 use Rattle.refusal.specs.Numbers.{Numbers}
 use Rattle.tables.specs.Check.{checkTable}
-use Rattle.tables.specs.Layout.{signedValue}
+use Rattle.layout.specs.Layout.{signedValue}
 use Rattle.operand.specs.declared.Operand.{Operand}
 use Rattle.operand.specs.declared.Operand.the-variants.{Nothing, Reg, RegList, Imm, Idx, Flag8, Flag16, RuntimeId, IntrinsicId, Raw}
 use Rattle.operand.specs.Numbers.{operandNumbers}

@@ -4,7 +4,7 @@ use mathlib.Core.List.{List, [], _∷_}
 use lib.IntN.{pos}
 use lib.ListN.{replicate}
 use Rattle.laws.specs.Ascii.{ascii}
-use Rattle.tables.specs.Layout.{layoutOf}
+use Rattle.layout.specs.Layout.{layoutOf}
 use Rattle.decoder.specs.declared.Outcome.{Outcome}
 use Rattle.decoder.specs.declared.Decoded.{Decoded}
 use Rattle.decoder.specs.Decode.{blank}

@@ -22,7 +22,7 @@ use Rattle.serializer.specs.Field.{rawAt}
 use Rattle.tables.specs.Check.{records, checkNames, isFaulty, firstFault, checkTable}
 use Rattle.tables.specs.Names.{badName}
 use Rattle.tables.specs.Records.{opcodeSize, opcodeNameSize, mostOpcodes, typeSize, typeNameSize, fixedTypes, mostTypes, nameSize, mostRuntime, mostIntrinsic, opcodeCount, typeCount, opcodeStart, opcodeOk, opcodeFault, typeOk, typeFault}
-use Rattle.tables.specs.Layout.{layoutSize, badValue, layoutOf}
+use Rattle.layout.specs.Layout.{layoutSize, badValue, layoutOf}
 use Rattle.header.specs.declared.HeaderAnswer.{HeaderAnswer}
 use Rattle.header.specs.declared.HeaderAnswer.the-variants as header-answer
 use Rattle.header.specs.Header.{headerBy, lengthOk, lengthBy, rtFor}

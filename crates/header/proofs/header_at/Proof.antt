@@ -1,7 +1,7 @@
 use mathlib.Core.Path.{ap}
 use denote.Ref.{now}
 use Rattle.store.specs.Records.{objectOf}
-use Rattle.tables.specs.Layout.{layoutOf}
+use Rattle.layout.specs.Layout.{layoutOf}
 use Rattle.header.specs.Calls.{headerCall}
 use Rattle.header.specs.Numbers.{headerNumbers}
 use Rattle.header.proofs.Searched.{header-searched, code-ordered}

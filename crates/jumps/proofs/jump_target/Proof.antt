@@ -2,7 +2,7 @@ use Prim.Native.Nat.{ℕ}
 use mathlib.Core.Path.{sym, ap, _∙_}
 use denote.Ref.{now}
 use Rattle.flow.specs.Opcodes.{opcodesOf}
-use Rattle.tables.specs.declared.Layout.{Layout}
+use Rattle.layout.specs.declared.Layout.{Layout}
 use Rattle.function.specs.Files.{lentFiles}
 use Rattle.jumps.specs.Numbers.{targetNumbers}
 use Rattle.serializer.specs.declared.Elem.{Elem}
