@@ -1,2 +1,3 @@
 pub mod Laws
 pub mod Same
+pub mod Listed
