@@ -31,7 +31,7 @@ Own d [] = Unit {0}
 Own d (i ∷ is) = (d (i .offset) .instr ≡ i) × Own d is
 
 module _ (s : Source) where
-  abbrev pub dec : ℕ → Decoded
+  abbrev dec : ℕ → Decoded
   dec = decodes (s .code) (s .opcodes) (s .types) (s .rfs)
 
   own : (f at : ℕ) → Own dec (listFrom dec f at .instrs)

@@ -94,13 +94,7 @@ fn word_of(target: Target) -> u32
     ensures { λ r. ⌜ r ≡ wordOf (toTarget target) ⌝ }
 {
     match target {
-        Target::At(t) => {
-            if t < 4294967295 {
-                t as u32
-            } else {
-                4294967295
-            }
-        }
+        Target::At(t) => { if t < 4294967295 { t as u32 } else { 4294967295 } }
         Target::Nothing => 4294967295,
     }
 }
