@@ -59,10 +59,10 @@ module _ (s : List ℕ) (first ts : ℕ) where
 
   module _ (count : ℕ) where
     -- the walk from slot k of block b goes on at the block's first slot where its window holds the index sought
-    pub block-passed : (payload blocks : List ℕ) (b want k : ℕ) → 0 < ts → Blocked s first count ts blocks → InWindow blocks b want → b * 1024 ≤ k → k ≤ b * 1024 + 1024 → k ≤ count
-        → walkDown (elemLook payload ts want) elem.Nothing s first want k ≡ walkDown (elemLook payload ts want) elem.Nothing s first want (b * 1024)
+    pub block-passed : (payload blocks : List ℕ) (b want k : ℕ) → 0 < ts → Blocked s first count ts blocks → InWindow blocks b want → b * 512 ≤ k → k ≤ b * 512 + 512 → k ≤ count
+        → walkDown (elemLook payload ts want) elem.Nothing s first want k ≡ walkDown (elemLook payload ts want) elem.Nothing s first want (b * 512)
     block-passed payload blocks b want k pos blocked w l m h =
-        down-skip (stopping (elemLook payload ts want) elem.Nothing want) elem.Nothing s first (b * 1024) k l
+        down-skip (stopping (elemLook payload ts want) elem.Nothing want) elem.Nothing s first (b * 512) k l
         (λ i a n. passed-next payload ts want (slotOf s (first + i)) pos (blocked .windows b i want a (omega arith) (w .0) (w .1)))
 
     -- zeros are no windows
@@ -75,7 +75,7 @@ module _ (s : List ℕ) (first ts : ℕ) where
         zeros (suc n) (suc i) = zeros n i
 
     -- one window more
-    pub block-more : (blocks : List ℕ) (b from to : ℕ) → b * 2 + 1 < length blocks → Blocked s first count ts blocks → WindowOf s first ts (b * 1024) (min (b * 1024 + 1024) count) from to
+    pub block-more : (blocks : List ℕ) (b from to : ℕ) → b * 2 + 1 < length blocks → Blocked s first count ts blocks → WindowOf s first ts (b * 512) (min (b * 512 + 512) count) from to
         → Blocked s first count ts (set (set blocks (b * 2) from) (b * 2 + 1) to)
     block-more blocks b from to h blocked w = record {
       windows = λ i. ⊎-elim

@@ -1,4 +1,4 @@
-// A summary of an array's slots by blocks of 1,024, for many walks downward over them: a block that a walk would pass is not looked at.
+// A summary of an array's slots by blocks of 512, for many walks downward over them: a block that a walk would pass is not looked at.
 use crate::Window;
 use store::SlotValue;
 ghost use mathlib.Core.Path.{_≡_};
@@ -6,16 +6,16 @@ ghost use mathlib.Core.Bool.{true};
 ghost use Prim.Native.Nat.{_+_, _*_, _/_, _<_, _≤_, min, max};
 ghost use Rattle.serializer.specs.mirror.Blocks.{held, WindowOf, InWindow, Blocked};
 
-// The window of block b at places 2b and 2b + 1, empty (0, 0) for blocks behind the 1,024th and where one block holds all slots: an
-// ordinary array costs only the room.
-pub fn elem_blocks(slots: &[u8], first: u32, count: u32, ts: u8) -> [u32; 2048]
+// The window of block b at places 2b and 2b + 1, empty (0, 0) for blocks behind the 2,048th and where the array has at most 1,024
+// slots: an ordinary one costs only the room.
+pub fn elem_blocks(slots: &[u8], first: u32, count: u32, ts: u8) -> [u32; 4096]
     ensures { λ r. ⌜ Blocked (now (slots .entry)) first count ts r ⌝ }
 {
-    let mut blocks = [0u32; 2048];
+    let mut blocks = [0u32; 4096];
     let n = block_count(count);
     let mut b: u32 = 0;
     while b < n {
-        let lo = b * 1024;
+        let lo = b * 512;
         let w = window_of(slots, first, lo, block_end(lo, count), ts);
         let at = b as usize * 2;
         blocks[at] = w.from;
@@ -27,25 +27,25 @@ pub fn elem_blocks(slots: &[u8], first: u32, count: u32, ts: u8) -> [u32; 2048]
 
 // How many blocks have a window.
 fn block_count(count: u32) -> u32
-    ensures { λ r. ⌜ r ≤ 1024 ⌝ }
+    ensures { λ r. ⌜ r ≤ 2048 ⌝ }
 {
     if count <= 1024 {
         return 0;
     }
     if 1048576 < count {
-        return 1024;
+        return 2048;
     }
-    (count - 1) / 1024 + 1
+    (count - 1) / 512 + 1
 }
 
 // Where the block from slot lo on ends.
 fn block_end(lo: u32, count: u32) -> u32
-    ensures { λ r. ⌜ r ≡ min (lo + 1024) count ⌝ }
+    ensures { λ r. ⌜ r ≡ min (lo + 512) count ⌝ }
 {
-    if count as u64 <= lo as u64 + 1024 {
+    if count as u64 <= lo as u64 + 512 {
         count
     } else {
-        lo + 1024
+        lo + 512
     }
 }
 

@@ -67,8 +67,8 @@ fn elem_down(
     let mut k = start;
     while 0 < k {
         let top = k;
-        let b = (k - 1) / 1024;
-        k = b * 1024;
+        let b = (k - 1) / 512;
+        k = b * 512;
         if !crate::blocks::passes(blocks, b, want) {
             match block_down(slots, payload, first, k, top, ts, want) {
                 ElemLook::Found(e) => return e,

@@ -59,12 +59,12 @@ pub enum Entry {
 }
 
 // The summary of the pool's slots that the `_in` calls take: made once where many elements are sought.
-pub fn pool_blocks(slots: &[u8], ts: u8, pool: Pool) -> [u32; 2048]
+pub fn pool_blocks(slots: &[u8], ts: u8, pool: Pool) -> [u32; 4096]
     ensures { λ r. ⌜ PoolBlocked (now (slots .entry)) ts pool r ⌝ }
 {
     match pool {
         Pool::At(p) => serializer::elem_blocks(slots, p.first, p.count, ts),
-        Pool::Nothing => [0u32; 2048],
+        Pool::Nothing => [0u32; 4096],
     }
 }
 

@@ -30,6 +30,6 @@ WindowOf s first ts lo hi from to = (k want : ℕ) → lo ≤ k → k < hi → f
 abbrev pub InWindow : List ℕ → ℕ → ℕ → Type 0
 InWindow blocks b want = (getD blocks (b * 2) 0 ≤ want) × (want < getD blocks (b * 2 + 1) 0)
 
--- each block's entries are a window of it. A block has 1,024 slots or, at the end, what is left
+-- each block's entries are a window of it. A block has 512 slots or, at the end, what is left
 pub record Blocked (s : List ℕ) (first count ts : ℕ) (blocks : List ℕ) : Type 0 where
-  pub windows : (b : ℕ) → WindowOf s first ts (b * 1024) (min (b * 1024 + 1024) count) (getD blocks (b * 2) 0) (getD blocks (b * 2 + 1) 0)
+  pub windows : (b : ℕ) → WindowOf s first ts (b * 512) (min (b * 512 + 512) count) (getD blocks (b * 2) 0) (getD blocks (b * 2 + 1) 0)

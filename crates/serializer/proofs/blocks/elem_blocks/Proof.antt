@@ -10,7 +10,7 @@ use Rattle.serializer.proofs.blocks.elem_blocks.Statement.{statement}
 use Rattle.serializer.proofs.blocks.elem_blocks.Tie as tie
 
 abbrev Inv-loop : tie.InvT-loop
-Inv-loop slots first count ts blocks₀ n b₀ blocks b = (n ≤ 1024) × (length blocks ≡ 2048) × Blocked slots first count ts blocks
+Inv-loop slots first count ts blocks₀ n b₀ blocks b = (n ≤ 2048) × (length blocks ≡ 4096) × Blocked slots first count ts blocks
 
 abbrev μ-loop : tie.MeasureT-loop
 μ-loop slots first count ts blocks₀ n b₀ blocks b = n - b
@@ -19,7 +19,7 @@ block-count-requires : tie.Need-block-count-requires Inv-loop μ-loop
 block-count-requires c κs = search needs
 
 loop-holds : tie.Need-loop-holds Inv-loop μ-loop
-loop-holds c = (c .block-count .ensures, refl, no-blocks _ _ _ _ 2048)
+loop-holds c = (c .block-count .ensures, refl, no-blocks _ _ _ _ 4096)
 
 mul-lo : tie.Need-mul-lo Inv-loop μ-loop
 mul-lo c = search needs
