@@ -6,57 +6,21 @@ use mathlib.Core.Bool.{Bool, true, false, cond, not}
 use mathlib.Core.Logic.{⊎-elim}
 use native.Mathlib.Omega.{arith}
 use native.Mathlib.Nat.{zero-add}
-use borrow.Author.Tests.{lt-ltb, eq-eqb, ne-eqb, eqb-true, not-true, not-false}
+use borrow.Author.Tests.{lt-ltb, eq-eqb, eqb-true, not-true}
 use lib.Dec.{eqb}
 use lib.ListN.{length, getD, take, drop, length-drop}
 use lib.Seq.{length-take-le, getD-take, getD-drop}
 use Rattle.laws.specs.Scan.{firstFrom, within}
-use Rattle.laws.proofs.Scan.{first-within, first-holds, first-none, first-is, first-along, within-below, within-above}
-use Rattle.laws.proofs.Tests.{clash, under?, same?, or-either, eqb-along}
-use Rattle.words.specs.Le.{leAt}
-use Rattle.words.proofs.Le.{leAt-none, leAt-past}
-use Rattle.tables.specs.Names.{isName, notName, notZero, nameOk}
-use Rattle.tables.specs.mirror.Fields.{allZero, isFine, Fine}
-use Rattle.tables.proofs.Rows.{leAt-same}
+use Rattle.laws.proofs.Scan.{first-within, first-holds, first-is, first-along, within-below, within-above}
+use Rattle.laws.proofs.Tests.{clash, under?, or-either, eqb-along}
+use Rattle.words.proofs.Le.{Bytes}
+use Rattle.tables.specs.Names.{isName, notName, notZero, nameOk, differs, isNamed}
+use Rattle.tables.specs.mirror.Fields.{isFine, Fine}
+use Rattle.tables.proofs.Rows.{named-byte, named-same}
 
--- ---- a field of zeros, word by word
-
--- the bytes below i are zero
-abbrev pub Zeros : List ℕ → ℕ → Type 0
-Zeros s i = (k : ℕ) → k < i → getD s k 0 ≡ 0
-
-zeros-all : (s : List ℕ) → Zeros s (length s) → allZero s ≡ true
-unfolding allZero
-zeros-all s h = eq-eqb _ _ (first-is (notZero s) 0 (length s) (length s) (omega arith) (omega arith) (λ j low l. ap not (eq-eqb _ _ (h j l))) (λ l. absurd (omega arith)))
-
-pub all-zeros : (s : List ℕ) → allZero s ≡ true → Zeros s (length s)
-unfolding allZero
-all-zeros s h k l = eqb-true _ _ (not-false _ (first-none (notZero s) 0 (length s) (eqb-true _ _ h ∙ sym (zero-add (length s))) k (omega arith) (omega arith)))
-
-leAt-zeros : (s : List ℕ) (i w : ℕ) → ((k : ℕ) → k < w → getD s (i + k) 0 ≡ 0) → leAt s i w ≡ 0
-leAt-zeros s i w h = leAt-same s [] i 0 w h ∙ leAt-past [] 0 w (omega arith)
-
--- a word that is not zero
-pub word-set : (s : List ℕ) (i w : ℕ) → i + w ≤ length s → (leAt s i w ≡ 0 → ⊥) → false ≡ allZero s
-word-set s i w room h = go (allZero s) refl
-  where
-    go : (t : Bool) → allZero s ≡ t → false ≡ t
-    go true e = absurd (h (leAt-zeros s i w (λ k l. all-zeros s e (i + k) (omega arith))))
-    go false e = refl
-
--- a word of zeros
-pub word-zero : (s : List ℕ) (i : ℕ) → Zeros s i → leAt s i 8 ≡ 0 → Zeros s (i + 8)
-word-zero s i h z k l = ⊎-elim (λ (m : k < i). h k m) here (under? k i)
-  where
-    here : i ≤ k → getD s k 0 ≡ 0
-    here m = let e : i + (k - i) ≡ k = omega arith in rw e at (leAt-none s i 8 z (k - i) (omega arith))
-
--- the last word decides, which may begin before what is passed
-pub word-last : (s : List ℕ) (i at w : ℕ) → Zeros s i → at ≤ i → at + w ≡ length s → eqb (leAt s at w) 0 ≡ allZero s
-word-last s i at w h low e = ⊎-elim (λ (z : leAt s at w ≡ 0). eq-eqb _ _ z ∙ sym (zeros-all s (all z))) (λ (n : leAt s at w ≡ 0 → ⊥). ne-eqb _ _ n ∙ word-set s at w (omega arith) n) (same? (leAt s at w) 0)
-  where
-    all : leAt s at w ≡ 0 → Zeros s (length s)
-    all z k l = ⊎-elim (λ (m : k < i). h k m) (λ (m : i ≤ k). let p : at + (k - at) ≡ k = omega arith in rw p at (leAt-none s at w z (k - at) (omega arith))) (under? k i)
+-- ---- a field with the empty name has only zeros
+pub no-bytes : Bytes []
+no-bytes k = record { fits = omega arith }
 
 -- what lies outside of a range
 pub within-none : (a e x : ℕ) → (a ≤ x → x ≤ e → ⊥) → within a e x ≡ false
@@ -67,33 +31,31 @@ module _ (s : List ℕ) (from to : ℕ) (room : to ≤ length s) where
   abbrev part : List ℕ
   part = take (to - from) (drop from s)
 
-  part-length : length part ≡ to - from
+  pub part-length : length part ≡ to - from
   part-length = length-take-le (to - from) (drop from s) (omega (arith, length-drop from s))
 
-  part-byte : (k : ℕ) → k < to - from → getD part k 0 ≡ getD s (from + k) 0
-  part-byte k l = rw (getD-take (to - from) (drop from s) k 0 l, getD-drop from s k 0)
+  -- what it holds, the whole holds there
+  pub part-named : (name : List ℕ) → isNamed part 0 (length part) name ≡ isNamed s from (to - from) name
+  part-named name = rw part-length (named-same part s 0 from (to - from) name name same)
+    where
+      same : (i : ℕ) → i < to - from → differs part 0 name i ≡ differs s from name i
+      same i l = ap (λ (b : ℕ). not (eqb b (getD name i 0))) (rw (zero-add i) (getD-take (to - from) (drop from s) i 0 l ∙ getD-drop from s i 0))
 
-  pub part-zeros : allZero part ≡ true → (k : ℕ) → from ≤ k → k < to → getD s k 0 ≡ 0
+  pub part-zeros : isNamed part 0 (length part) [] ≡ true → (k : ℕ) → from ≤ k → k < to → getD s k 0 ≡ 0
   part-zeros h k low high =
       let e : from + (k - from) ≡ k = omega arith in
-      rw e at (sym (part-byte (k - from) (omega arith)) ∙ all-zeros part h (k - from) (omega (arith, part-length)))
+      rw e at (named-byte s from (to - from) [] (sym (part-named []) ∙ h) (k - from) (omega arith))
 
-  -- what is found there is, from places further on, what is found in the whole
-  pub zeros-part : from ≤ to → allZero part ≡ eqb (firstFrom (notZero s) from (to - from)) to
-  unfolding allZero
-  zeros-part order = rw part-length (sym (eqb-along from _ _) ∙ ap (λ (k : ℕ). eqb k (from + (to - from))) (sym found) ∙ ap (λ (k : ℕ). eqb (firstFrom (notZero s) from (to - from)) k) end)
+  -- it has only zeros where a search in the whole finds nothing else
+  pub zeros-part : from ≤ to → isNamed part 0 (length part) [] ≡ eqb (firstFrom (notZero s) from (to - from)) to
+  unfolding isNamed
+  zeros-part order = part-named [] ∙ sym (eqb-along from _ _) ∙ ap (λ (k : ℕ). eqb k (from + (to - from))) (sym found) ∙ ap (λ (k : ℕ). eqb (firstFrom (notZero s) from (to - from)) k) end
     where
       end : from + (to - from) ≡ to
       end = omega arith
 
-      start : from + 0 ≡ from
-      start = omega arith
-
-      same : (k : ℕ) → 0 ≤ k → k < 0 + (to - from) → notZero s (from + k) ≡ notZero part k
-      same k low high = ap (λ (b : ℕ). not (eqb b 0)) (sym (part-byte k (omega arith)))
-
-      found : firstFrom (notZero s) from (to - from) ≡ from + firstFrom (notZero part) 0 (to - from)
-      found = rw start at (first-along (notZero s) (notZero part) from 0 (to - from) same)
+      found : firstFrom (notZero s) from (to - from) ≡ from + firstFrom (differs s from []) 0 (to - from)
+      found = let start : from + 0 ≡ from = omega arith in rw start at (first-along (notZero s) (differs s from []) from 0 (to - from) (λ k low high. refl))
 
 -- ---- bytes that may each stand before the next
 

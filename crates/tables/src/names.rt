@@ -7,13 +7,13 @@ use crate::TYPE_NAME;
 use crate::TYPE_SIZE;
 use refusal::Check;
 ghost use mathlib.Core.Path.{_≡_};
-ghost use Prim.Native.Nat.{_+_, _-_, _*_, _/_, _<_, _≤_, min, max};
+ghost use Prim.Native.Nat.{_+_, _-_, _*_, _/_, _<_, _≤_, max};
 ghost use mathlib.Core.Bool.{true, cond};
+ghost use mathlib.Core.List.{[]};
 ghost use lib.ListN.{length};
 ghost use Rattle.laws.specs.Scan.{firstFrom};
-ghost use Rattle.words.specs.Le.{leAt};
 ghost use Rattle.tables.specs.Names.{isName, notName, nameOk, isZero, nameAt, isNamed};
-ghost use Rattle.tables.specs.mirror.Fields.{allZero, isFine, Fine};
+ghost use Rattle.tables.specs.mirror.Fields.{isFine, Fine};
 ghost use Rattle.text.specs.Put.{Put};
 ghost use Rattle.tables.specs.Texts.{opName, typeName, runtimeName, intrinsicName};
 ghost use Rattle.tables.specs.Check.{checkNames, checkAllNames};
@@ -25,7 +25,12 @@ pub fn name_is(s: &[u8], at: usize, w: u8, name: &[u8]) -> bool
     if s.len() <= at {
         return field_is(b"", 0, w, name);
     }
-    field_is(s, at, w, name)
+    let n = w as usize;
+    if s.len() - at < n {
+        return field_is(s, at, w, name);
+    }
+    let to = at + n;
+    same_bytes(&s[at..to], name)
 }
 
 // The name in the field of w bytes at place at.
@@ -249,7 +254,7 @@ fn name_end(s: &[u8], from: usize, to: usize) -> usize
 
 // Whether a field has only zeros: eight bytes are tested at once, the last eight once more.
 pub(crate) fn all_zero(field: &[u8]) -> bool
-    ensures { λ r. ⌜ r ≡ allZero (now (field .entry)) ⌝ }
+    ensures { λ r. ⌜ r ≡ isNamed (now (field .entry)) 0 (length (now (field .entry))) [] ⌝ }
 {
     let n = field.len();
     if n < 8 {
@@ -265,31 +270,38 @@ pub(crate) fn all_zero(field: &[u8]) -> bool
     words::u64_at(field, n - 8) == 0
 }
 
-// Whether the field of w bytes at place at holds this name: eight bytes are compared at once.
-fn field_is(s: &[u8], at: usize, w: u8, name: &[u8]) -> bool
-    requires { ⌜ at ≤ length (now s) ⌝ }
-    ensures { λ r. ⌜ r ≡ isNamed (now (s .entry)) at w (now (name .entry)) ⌝ }
+// Whether a field has the bytes of another: eight are compared at once, the last eight once more.
+fn same_bytes(a: &[u8], b: &[u8]) -> bool
+    ensures { λ r. ⌜ r ≡ isNamed (now (a .entry)) 0 (length (now (a .entry))) (now (b .entry)) ⌝ }
 {
-    let end = w as usize;
+    let n = a.len();
+    if n < 8 {
+        return words::le_at(a, 0, n) == words::le_at(b, 0, n);
+    }
     let mut i = 0;
-    while i < end {
-        let n = end - i;
-        if word_at(s, at + i, n) != word_at(name, i, n) {
+    while 8 < n - i {
+        if words::u64_at(a, i) != words::u64_at(b, i) {
             return false;
         }
         i += 8;
     }
-    true
+    words::u64_at(a, n - 8) == words::u64_at(b, n - 8)
 }
 
-// The number that n bytes from place i hold, at most eight of them; for eight it is one load.
-fn word_at(s: &[u8], i: usize, n: usize) -> u64
-    ensures { λ r. ⌜ r ≡ leAt (now (s .entry)) i (min n 8) ⌝ }
+// Whether the field of w bytes at place at holds this name, which may be shorter, byte by byte.
+fn field_is(s: &[u8], at: usize, w: u8, name: &[u8]) -> bool
+    requires { ⌜ at ≤ length (now s) ⌝ }
+    ensures { λ r. ⌜ r ≡ isNamed (now (s .entry)) at w (now (name .entry)) ⌝ }
 {
-    if n < 8 {
-        return words::le_at(s, i, n);
+    let n = w as usize;
+    let mut i = 0;
+    while i < n {
+        if words::byte_at(s, at + i) != words::byte_at(name, i) {
+            return false;
+        }
+        i += 1;
     }
-    words::u64_at(s, i)
+    true
 }
 
 // The first place from from, below to, whose byte is zero; to where there is none.

@@ -1,16 +1,11 @@
--- Fields of names as the code tests them, many bytes at a time; `plain-name` and `zeros-part` of proofs/Fields.antt tie them to `nameOk`.
+-- Fields of names as the code tests them, many bytes at a time; `plain-name` of proofs/Fields.antt ties them to `nameOk`.
 use Prim.Native.Nat.{ℕ, _+_, _<_, _≤_, max}
 use mathlib.Core.Path.{_≡_}
 use mathlib.Core.List.{List}
 use mathlib.Core.Bool.{Bool, true, _||_}
 use lib.Dec.{eqb}
-use lib.ListN.{length, getD}
-use Rattle.laws.specs.Scan.{firstFrom}
-use Rattle.tables.specs.Names.{isName, notZero}
-
--- a field has only zeros
-unfoldable pub allZero : List ℕ → Bool
-allZero s = eqb (firstFrom (notZero s) 0 (length s)) (length s)
+use lib.ListN.{getD}
+use Rattle.tables.specs.Names.{isName}
 
 -- a byte that may stand before c in a field with a name: a character, or a zero before a zero
 unfoldable pub isFine : ℕ → ℕ → Bool

@@ -1,4 +1,4 @@
-use mathlib.Core.Path.{sym, _∙_}
+use mathlib.Core.Path.{sym}
 use borrow.Author.Needs.{needs}
 use Rattle.tables.proofs.names.name_ok.Statement.{statement}
 use Rattle.tables.proofs.names.name_ok.Tie as tie
