@@ -364,28 +364,18 @@ fn keep_code(
         (sourceOf (now (code .entry)) (now (opcodes .entry)) (now (types .entry)) (now (slots .entry)) (now (payload .entry)) f)
         (now (heads .exit)) (now (words .exit)) r ⌝ }
 {
-    let frame = f.frame;
     let mut check = Check::Ok;
     let mut i: usize = 0;
     while i < code.len() {
-        let d = decoder::decode_at(
-            code,
-            opcodes,
-            types,
-            i,
-            frame.reg_file_start,
-            f.wide,
-            f.extra,
-        );
-        let outcome = d.outcome;
-        let instr = d.instr;
+        let x = decoder::extent_at(code, opcodes, types, i, f.wide, f.extra);
+        let outcome = x.outcome;
         match outcome {
             Outcome::Refused(refusal) => return Check::Refused(refusal),
             Outcome::End => return check,
             Outcome::Done => {
-                let end = instr.end;
+                let end = x.end;
                 let size = end - i;
-                let flow = flow::flow_in(flows, instr.opcode);
+                let flow = flow::flow_in(flows, x.opcode);
                 let k = keep_at(code, opcodes, types, slots, payload, f, flow, i, size as u8);
                 check = kept_check(check, k.refused, i);
                 heads[i] = k.head;
