@@ -103,7 +103,7 @@ cast-keep-at : tie.Need-cast-keep-at Inv-loop μ-loop
 cast-keep-at c = let i = c .before .before .before .before .before in omega (arith, ends (c .before), few-bytes (source i) (i .loop .i) (done (c .before)))
 
 keep-at-requires : tie.Need-keep-at-requires Inv-loop μ-loop
-keep-at-requires c κs = ?
+keep-at-requires c κs = start (c .before .before .before .before .before) .pre .5
 
 kept-check-requires : tie.Need-kept-check-requires Inv-loop μ-loop
 kept-check-requires c κs = search needs
