@@ -5,27 +5,6 @@ use mir.Syntax.{w32}
 use Rattle.tables.proofs.shape.frame_of.Statement.{statement}
 use Rattle.tables.proofs.shape.frame_of.Tie as tie
 
-value-requires : tie.Need-value-requires
-value-requires c κs = search needs
-
-signed-value-requires : tie.Need-signed-value-requires
-signed-value-requires c κs = search needs
-
-param-base-requires : tie.Need-param-base-requires
-param-base-requires c κs = search needs
-
-signed-value-requires-2 : tie.Need-signed-value-requires-2
-signed-value-requires-2 c κs = search needs
-
-signed-value-requires-3 : tie.Need-signed-value-requires-3
-signed-value-requires-3 c κs = search needs
-
-signed-value-requires-4 : tie.Need-signed-value-requires-4
-signed-value-requires-4 c κs = search needs
-
-signed-value-requires-5 : tie.Need-signed-value-requires-5
-signed-value-requires-5 c κs = search needs
-
 returns : tie.Need-returns
 returns c =
     let two = toZ-ofZ {w = w32} {z = c .before .before .before .signed-value2 .result} (sfits-of {w = w32} (c .before .before .before .signed-value2 .ok)) ∙ c .before .before .before .signed-value2 .ensures in
@@ -39,11 +18,11 @@ pub frame-of-spec : {M : Type 1} → statement M
 frame-of-spec =
     tie.close
     (tie.spec
-    value-requires
-    signed-value-requires
-    param-base-requires
-    signed-value-requires-2
-    signed-value-requires-3
-    signed-value-requires-4
-    signed-value-requires-5
+    (λ c κs. search needs)
+    (λ c κs. search needs)
+    (λ c κs. search needs)
+    (λ c κs. search needs)
+    (λ c κs. search needs)
+    (λ c κs. search needs)
+    (λ c κs. search needs)
     returns)

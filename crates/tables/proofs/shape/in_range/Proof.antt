@@ -8,15 +8,6 @@ use borrow.Author.Needs.{needs}
 use Rattle.tables.proofs.shape.in_range.Statement.{statement}
 use Rattle.tables.proofs.shape.in_range.Tie as tie
 
-is-tagged-requires : tie.Need-is-tagged-requires
-is-tagged-requires c κs = search needs
-
-is-unit-requires : tie.Need-is-unit-requires
-is-unit-requires c κs = search needs
-
-is-offset-requires : tie.Need-is-offset-requires
-is-offset-requires c κs = search needs
-
 returns : tie.Need-returns
 unfolding rangeOf ranges
 returns c = rw (c .before .match .keys1) (c .is-tagged .ensures)
@@ -59,9 +50,9 @@ pub in-range-spec : {M : Type 1} → statement M
 in-range-spec =
     tie.close
     (tie.spec
-    is-tagged-requires
-    is-unit-requires
-    is-offset-requires
+    (λ c κs. search needs)
+    (λ c κs. search needs)
+    (λ c κs. search needs)
     returns
     returns-2
     returns-3

@@ -3,9 +3,6 @@ use borrow.Author.Needs.{needs}
 use Rattle.tables.proofs.shape.is_unit.Statement.{statement}
 use Rattle.tables.proofs.shape.is_unit.Tie as tie
 
-is-tagged-requires : tie.Need-is-tagged-requires
-is-tagged-requires c κs = search needs
-
 returns : tie.Need-returns
 returns c = rw (eq-eqb _ _ (c .if1 .taken))
 
@@ -13,4 +10,4 @@ returns-2 : tie.Need-returns-2
 returns-2 c = rw (ne-eqb _ _ (c .before .if1 .left)) (c .is-tagged .ensures)
 
 pub is-unit-spec : {M : Type 1} → statement M
-is-unit-spec = tie.close (tie.spec is-tagged-requires returns returns-2)
+is-unit-spec = tie.close (tie.spec (λ c κs. search needs) returns returns-2)

@@ -3,9 +3,6 @@ use borrow.Author.Needs.{needs}
 use Rattle.tables.proofs.shape.osr_field.Statement.{statement}
 use Rattle.tables.proofs.shape.osr_field.Tie as tie
 
-field-of-requires : tie.Need-field-of-requires
-field-of-requires c κs = search needs
-
 returns : tie.Need-returns
 returns c = rw (eq-eqb _ _ (c .before .if1 .taken)) (c .field-of .ensures)
 
@@ -13,4 +10,4 @@ returns-2 : tie.Need-returns-2
 returns-2 c = rw (ne-eqb _ _ (c .if1 .left))
 
 pub osr-field-spec : {M : Type 1} → statement M
-osr-field-spec = tie.close (tie.spec field-of-requires returns returns-2)
+osr-field-spec = tie.close (tie.spec (λ c κs. search needs) returns returns-2)

@@ -7,9 +7,6 @@ use Rattle.tables.proofs.shape.slot_for.Tie as tie
 returns : tie.Need-returns
 returns c = rw (eq-eqb _ _ (c .if1 .taken))
 
-div-result : tie.Need-div-result
-div-result c = search needs
-
 returns-2 : tie.Need-returns-2
 returns-2 c = rw (ne-eqb _ _ (c .before .if1 .left), c .if2 .taken, div-zero)
 
@@ -17,4 +14,4 @@ returns-3 : tie.Need-returns-3
 returns-3 c = rw (ne-eqb _ _ (c .before .if1 .left))
 
 pub slot-for-spec : {M : Type 1} → statement M
-slot-for-spec = tie.close (tie.spec returns div-result returns-2 returns-3)
+slot-for-spec = tie.close (tie.spec returns (λ c. search needs) returns-2 returns-3)

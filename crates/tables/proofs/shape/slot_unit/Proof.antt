@@ -3,12 +3,6 @@ use borrow.Author.Needs.{needs}
 use Rattle.tables.proofs.shape.slot_unit.Statement.{statement}
 use Rattle.tables.proofs.shape.slot_unit.Tie as tie
 
-value-requires : tie.Need-value-requires
-value-requires c κs = search needs
-
-cast-unit : tie.Need-cast-unit
-cast-unit c = search needs
-
 returns : tie.Need-returns
 returns c = rw (← c .before .value .ensures, eq-eqb _ _ (c .if1 .taken))
 
@@ -16,4 +10,4 @@ returns-2 : tie.Need-returns-2
 returns-2 c = rw (← c .before .value .ensures, ne-eqb _ _ (c .if1 .left))
 
 pub slot-unit-spec : {M : Type 1} → statement M
-slot-unit-spec = tie.close (tie.spec value-requires cast-unit returns returns-2)
+slot-unit-spec = tie.close (tie.spec (λ c κs. search needs) (λ c. search needs) returns returns-2)
