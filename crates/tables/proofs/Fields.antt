@@ -1,22 +1,24 @@
 -- Fields of names, many bytes at a time. Assumes nothing.
-use Prim.Native.Nat.{ℕ, zero, suc, _+_, _-_, _<_, _≤_, max}
+use Prim.Native.Nat.{ℕ, zero, suc, _+_, _-_, _/_, _%_, _<_, _≤_, max}
 use mathlib.Core.Path.{_≡_, refl, sym, ap, _∙_}
 use mathlib.Core.List.{List, []}
-use mathlib.Core.Bool.{Bool, true, false, cond, not}
+use mathlib.Core.Bool.{Bool, true, false, cond, not, _&&_}
 use mathlib.Core.Logic.{⊎-elim}
 use native.Mathlib.Omega.{arith}
 use native.Mathlib.Nat.{zero-add}
-use borrow.Author.Tests.{lt-ltb, eq-eqb, eqb-true, not-true}
+use borrow.Author.Tests.{ne-eqb, le-leb, lt-leb, lt-ltb, eq-eqb, eqb-true, not-true, not-false}
 use lib.Dec.{eqb}
 use lib.ListN.{length, getD, take, drop, length-drop}
 use lib.Seq.{length-take-le, getD-take, getD-drop}
 use Rattle.laws.specs.Scan.{firstFrom, within}
-use Rattle.laws.proofs.Scan.{first-within, first-holds, first-is, first-along, within-below, within-above}
-use Rattle.laws.proofs.Tests.{clash, under?, or-either, eqb-along}
-use Rattle.words.proofs.Le.{Bytes}
+use Rattle.laws.proofs.Scan.{first-here, first-next, first-end, first-within, first-holds, first-none, first-is, first-along, first-past, first-more, within-below, within-above}
+use Rattle.laws.proofs.Tests.{clash, under?, same?, or-either, eqb-along}
+use Rattle.words.specs.Le.{leAt}
+use Rattle.words.proofs.Le.{Bytes, leAt-none, leAt-past}
+use Rattle.tables.specs.Records.{noType, opcodeOk}
 use Rattle.tables.specs.Names.{isName, notName, notZero, nameOk, differs, isNamed}
-use Rattle.tables.specs.mirror.Fields.{isFine, Fine}
-use Rattle.tables.proofs.Rows.{named-byte, named-same}
+use Rattle.tables.specs.mirror.Fields.{isFine, Fine, codesFit}
+use Rattle.tables.proofs.Rows.{leAt-same, named-byte, named-same}
 
 -- ---- a field with the empty name has only zeros
 pub no-bytes : Bytes []
@@ -46,6 +48,10 @@ module _ (s : List ℕ) (from to : ℕ) (room : to ≤ length s) where
       let e : from + (k - from) ≡ k = omega arith in
       rw e at (named-byte s from (to - from) [] (sym (part-named []) ∙ h) (k - from) (omega arith))
 
+  -- a number in it is one in the whole
+  pub part-word : (m : ℕ) → m ≤ to - from → leAt part 0 m ≡ leAt s from m
+  part-word m h = leAt-same part s 0 from m (λ k l. rw (zero-add k) (getD-take (to - from) (drop from s) k 0 (omega arith) ∙ getD-drop from s k 0))
+
   -- it has only zeros where a search in the whole finds nothing else
   pub zeros-part : from ≤ to → isNamed part 0 (length part) [] ≡ eqb (firstFrom (notZero s) from (to - from)) to
   unfolding isNamed
@@ -56,6 +62,93 @@ module _ (s : List ℕ) (from to : ℕ) (room : to ≤ length s) where
 
       found : firstFrom (notZero s) from (to - from) ≡ from + firstFrom (differs s from []) 0 (to - from)
       found = let start : from + 0 ≡ from = omega arith in rw start at (first-along (notZero s) (differs s from []) from 0 (to - from) (λ k low high. refl))
+
+-- ---- a search that finds nothing, in two parts, and in the bytes of a number
+none-split : (p : ℕ → Bool) (a b c : ℕ) → a ≤ b → b ≤ c → eqb (firstFrom p a (c - a)) c ≡ (eqb (firstFrom p a (b - a)) b && eqb (firstFrom p b (c - b)) c)
+none-split p a b c low high = ⊎-elim none some (same? (firstFrom p a (b - a)) b)
+  where
+    none : firstFrom p a (b - a) ≡ b → eqb (firstFrom p a (c - a)) c ≡ (eqb (firstFrom p a (b - a)) b && eqb (firstFrom p b (c - b)) c)
+    none e =
+        let n : a + (b - a) ≡ b = omega arith in
+        rw (eq-eqb _ _ e, first-past p a b c low high (λ k l m. first-none p a (b - a) (e ∙ sym n) k l (omega arith)))
+
+    some : (firstFrom p a (b - a) ≡ b → ⊥) → eqb (firstFrom p a (c - a)) c ≡ (eqb (firstFrom p a (b - a)) b && eqb (firstFrom p b (c - b)) c)
+    some x =
+        let h = first-within p a (b - a) .1 in
+        let f : firstFrom p a (b - a) < b = omega arith in
+        rw (ne-eqb _ _ x, first-more p a (b - a) (c - a) (omega arith) (omega arith)) (ne-eqb (firstFrom p a (b - a)) c (λ e. omega arith))
+
+none-word : (s : List ℕ) (i m : ℕ) → eqb (leAt s i m) 0 ≡ eqb (firstFrom (notZero s) i m) (i + m)
+none-word s i m = ⊎-elim (λ (z : leAt s i m ≡ 0). eq-eqb _ _ z ∙ sym (eq-eqb _ _ (none z))) (λ (x : leAt s i m ≡ 0 → ⊥). ne-eqb _ _ x ∙ sym (ne-eqb _ _ (λ e. x (zero e)))) (same? (leAt s i m) 0)
+  where
+    none : leAt s i m ≡ 0 → firstFrom (notZero s) i m ≡ i + m
+    none z = first-is (notZero s) i m (i + m) (omega arith) (omega arith) (λ j low l. let e : i + (j - i) ≡ j = omega arith in ap not (eq-eqb _ _ (rw e at (leAt-none s i m z (j - i) (omega arith))))) (λ l. absurd (omega arith))
+
+    zero : firstFrom (notZero s) i m ≡ i + m → leAt s i m ≡ 0
+    zero e = leAt-same s [] i 0 m (λ k l. eqb-true _ _ (not-false _ (first-none (notZero s) i m e (i + k) (omega arith) (omega arith)))) ∙ leAt-past [] 0 m (omega arith)
+
+-- ---- type codes that are read as one number: the next is what is left of a division by 256
+code-next : (s : List ℕ) → Bytes s → (i k : ℕ) → k < 8 → (leAt s (i + k) (8 - k) % 256 ≡ getD s (i + k) 0) × (leAt s (i + k) (8 - k) / 256 ≡ leAt s (i + (k + 1)) (8 - (k + 1)))
+unfolding leAt
+code-next s bytes i k l =
+    let e : 8 - k ≡ suc (8 - (k + 1)) = omega arith in
+    let f : i + k + 1 ≡ i + (k + 1) = omega arith in
+    rw (e, f) (omega (arith, bytes (i + k)), omega (arith, bytes (i + k)))
+
+-- k of the codes are passed, and rest has the others
+pub record Passed (s : List ℕ) (at count known k rest : ℕ) : Type 0 where
+  pub most : k ≤ count
+  pub left : rest ≡ leAt s (at + k) (8 - k)
+  pub found : firstFrom (noType s known) at count ≡ firstFrom (noType s known) (at + k) (at + count - (at + k))
+
+pub passed-none : (s : List ℕ) (at count known rest : ℕ) → rest ≡ leAt s at 8 → Passed s at count known 0 rest
+passed-none s at count known rest is =
+    let e : at + 0 ≡ at = omega arith in
+    let n : at + count - at ≡ count = omega arith in
+    record { most = omega arith; left = rw e is; found = rw (e, n) }
+
+module _ (s : List ℕ) (bytes : Bytes s) (at count known k rest : ℕ) (few : count ≤ 8) (p : Passed s at count known k rest) where
+  code-is : k < count → rest % 256 ≡ getD s (at + k) 0
+  code-is l = ap (λ (r : ℕ). r % 256) (p .left) ∙ code-next s bytes at k (omega arith) .0
+
+  pub passed-bad : k < count → known ≤ rest % 256 → false ≡ codesFit s at count known
+  unfolding codesFit
+  passed-bad l h = rw (ne-eqb _ _ other)
+    where
+      here : firstFrom (noType s known) at count ≡ at + k
+      here = p .found ∙ first-here (noType s known) (at + k) (at + count) (omega arith) (le-leb _ _ (rw (code-is l) at h))
+
+      other : firstFrom (noType s known) at count ≡ at + count → ⊥
+      other e = let h = here in omega arith
+
+  pub passed-more : k < count → rest % 256 < known → Passed s at count known (k + 1) (rest / 256)
+  passed-more l h =
+      let e : at + k + 1 ≡ at + (k + 1) = omega arith in
+      record {
+        most = omega arith;
+        left = ap (λ (r : ℕ). r / 256) (p .left) ∙ code-next s bytes at k (omega arith) .1;
+        found = p .found ∙ rw e at (first-next (noType s known) (at + k) (at + count) (omega arith) (lt-leb _ _ (rw (code-is l) at h)));
+      }
+
+  pub passed-all : count ≤ k → eqb rest 0 ≡ codesFit s at count known
+  unfolding codesFit
+  passed-all h =
+      let e : k ≡ count = omega arith in
+      rw (eq-eqb _ _ (p .found ∙ first-end (noType s known) (at + k) (at + count) (omega arith) ∙ ap (λ (j : ℕ). at + j) e), p .left, e)
+
+-- the codes of an opcode record and the zeros behind them
+pub codes-zeros : (s : List ℕ) (at known : ℕ) → getD s (at + 40) 0 ≤ 2 → getD s (at + 41) 0 ≤ 8
+    → (codesFit s (at + 42) (getD s (at + 41) 0) known && eqb (firstFrom (notZero s) (at + 50) (at + 64 - (at + 50))) (at + 64)) ≡ opcodeOk s at known
+unfolding codesFit opcodeOk
+codes-zeros s at known mark few =
+    let n = getD s (at + 41) 0 in
+    let e : at + 42 + n + (8 - n) ≡ at + 50 = omega arith in
+    let w : at + 50 - (at + 42 + n) ≡ 8 - n = omega arith in
+    rw (le-leb _ _ mark, le-leb _ _ few, none-split (notZero s) (at + 42 + n) (at + 50) (at + 64) (omega arith) (omega arith), w, none-word s (at + 42 + n) (8 - n), e) (go (eqb (firstFrom (noType s known) (at + 42) n) (at + 42 + n)) (eqb (firstFrom (notZero s) (at + 42 + n) (8 - n)) (at + 50)) (eqb (firstFrom (notZero s) (at + 50) (at + 64 - (at + 50))) (at + 64)))
+  where
+    go : (a b c : Bool) → ((a && b) && c) ≡ (a && (b && c))
+    go true b c = refl
+    go false b c = refl
 
 -- ---- bytes that may each stand before the next
 

@@ -19,7 +19,7 @@ use Rattle.tables.specs.Names.{differs, isNamed}
 use Rattle.tables.specs.mirror.Rows.{filled, rows}
 
 -- ---- bytes that agree are one number, and only those
-leAt-same : (s t : List ℕ) (a b w : ℕ) → ((k : ℕ) → k < w → getD s (a + k) 0 ≡ getD t (b + k) 0) → leAt s a w ≡ leAt t b w
+pub leAt-same : (s t : List ℕ) (a b w : ℕ) → ((k : ℕ) → k < w → getD s (a + k) 0 ≡ getD t (b + k) 0) → leAt s a w ≡ leAt t b w
 unfolding leAt
 leAt-same s t a b zero h = refl
 leAt-same s t a b (suc w) h = rw (first, leAt-same s t (a + 1) (b + 1) w rest)
