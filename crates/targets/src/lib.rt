@@ -137,7 +137,18 @@ pub fn jump_target_in(
     let Operand::Idx(v) = op else {
         return Target::Nothing;
     };
-    let Elem::Smi(d) = pool_elem_in(slots, payload, blocks, ts, pool, v as u64) else {
+    let Pool::At(p) = pool else {
+        return Target::Nothing;
+    };
+    let Elem::Smi(d) = serializer::array_elem_in(
+        slots,
+        payload,
+        blocks,
+        p.first,
+        p.count,
+        ts,
+        v as u64,
+    ) else {
         return Target::Nothing;
     };
     target_by(kind, here(instr), d)

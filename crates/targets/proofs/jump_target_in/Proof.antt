@@ -1,6 +1,6 @@
 -- Each way out is one of the cases of `jumpTarget`: no jump, no distance, or the target at the distance.
 use Prim.Native.Nat.{ℕ}
-use mathlib.Core.Path.{sym, ap, _∙_}
+use mathlib.Core.Path.{_≡_, sym, ap, _∙_}
 use denote.Ref.{now}
 use borrow.Author.Tests.{not-true, not-false}
 use mir.Facts.{toZ-ofZ}
@@ -68,22 +68,34 @@ returns-4 c blocked = let s = c .before .before .before .before .before .before 
     let e = of-pool (elems s) (s .args .flow .pool) (o .result) index.Nothing (not-false _ (c .before .if2 .left)) (not-index (o .result) (c .match2 .keys2)) in
     no-distance (elems s) (s .args .flow) (s .args .instr) (o .result) (o .ensures) e
 
-cast-pool-elem-in : tie.Need-cast-pool-elem-in
-cast-pool-elem-in c = search needs
+enum-known-pool : tie.Need-enum-known-pool
+enum-known-pool c = search needs
 
-pool-elem-in-requires : tie.Need-pool-elem-in-requires
-pool-elem-in-requires c κs = search needs
+enum-told-2 : tie.Need-enum-told-2
+enum-told-2 c = search needs
+
+returns-5 : tie.Need-returns-5
+unfolding poolSearched indexOf
+returns-5 c blocked = let s = c .before .before .before .before .before .before .before .before .before .before .before .before .before in
+    let o = c .before .before .before .before .before .before .before .operand-of in
+    let e : number.Nothing ≡ smiOf (elems s (c .before .before .before .op .given .0 .0)) = rw (c .enum-told2 .given .1) in
+    no-distance (elems s) (s .args .flow) (s .args .instr) (o .result) (o .ensures) (e ∙ of-pool (elems s) (s .args .flow .pool) (o .result) (index.Is (c .before .before .before .op .given .0 .0)) (not-false _ (c .before .before .before .before .before .if2 .left)) (rw (c .before .before .before .op .given .1)))
+
+cast-array-elem-in : tie.Need-cast-array-elem-in
+cast-array-elem-in c = search needs
+
+array-elem-in-requires : tie.Need-array-elem-in-requires
+array-elem-in-requires c κs = search needs
 
 enum-known-d-2 : tie.Need-enum-known-d-2
 enum-known-d-2 c = search needs
 
-returns-5 : tie.Need-returns-5
-unfolding indexOf
-returns-5 c blocked = let s = c .before .before .before .before .before .before .before .before .before .before .before .before .before in
-    let o = c .before .before .before .before .before .before .before .operand-of in
-    let v = c .before .before .before .op .given in
-    let e = not-smi (c .before .pool-elem-in .result) (c .match3 .keys2) ∙ ap smiOf (c .before .pool-elem-in .ensures blocked) in
-    no-distance (elems s) (s .args .flow) (s .args .instr) (o .result) (o .ensures) (e ∙ of-pool (elems s) (s .args .flow .pool) (o .result) (index.Is (v .0 .0)) (not-false _ (c .before .before .before .before .before .if2 .left)) (rw (v .1)))
+returns-6 : tie.Need-returns-6
+unfolding poolSearched indexOf
+returns-6 c blocked = let s = c .before .before .before .before .before .before .before .before .before .before .before .before .before .before .before .before in
+    let o = c .before .before .before .before .before .before .before .before .before .before .operand-of in
+    let e : number.Nothing ≡ smiOf (elems s (c .before .before .before .before .before .before .op .given .0 .0)) = rw (c .before .before .before .pool .given .1) (not-smi (c .before .array-elem-in .result) (c .match4 .keys2) ∙ ap smiOf (c .before .array-elem-in .ensures (rw (c .before .before .before .pool .given .1) at blocked))) in
+    no-distance (elems s) (s .args .flow) (s .args .instr) (o .result) (o .ensures) (e ∙ of-pool (elems s) (s .args .flow .pool) (o .result) (index.Is (c .before .before .before .before .before .before .op .given .0 .0)) (not-false _ (c .before .before .before .before .before .before .before .before .if2 .left)) (rw (c .before .before .before .before .before .before .op .given .1)))
 
 here-requires-2 : tie.Need-here-requires-2
 here-requires-2 c κs = search needs
@@ -91,15 +103,13 @@ here-requires-2 c κs = search needs
 target-by-requires-2 : tie.Need-target-by-requires-2
 target-by-requires-2 c κs = search needs
 
-returns-6 : tie.Need-returns-6
-unfolding indexOf
-returns-6 c blocked = let s = c .before .before .before .before .before .before .before .before .before .before .before .before .before .before .before .before .before in
-    let o = c .before .before .before .before .before .before .before .before .before .before .before .operand-of in
-    let v = c .before .before .before .before .before .before .before .op .given in
-    let d = c .before .before .before .d2 .given in
-    let f : SFits w64 (d .0 .0) = record { sfits = c .before .before .known-told3 .given .0 .1 } in
-    let e = ap smiOf (sym (d .1) ∙ c .before .before .before .before .before .pool-elem-in .ensures blocked) ∙ of-pool (elems s) (s .args .flow .pool) (o .result) (index.Is (v .0 .0)) (not-false _ (c .before .before .before .before .before .before .before .before .before .if2 .left)) (rw (v .1)) in
-    at-distance (elems s) (s .args .flow) (s .args .instr) (o .result) (o .ensures) (c .before .here2 .result) (d .0 .0) e (c .before .here2 .ensures) (simp (toZ-ofZ f) at (c .target-by2 .ensures))
+returns-7 : tie.Need-returns-7
+unfolding poolSearched indexOf
+returns-7 c blocked = let s = c .before .before .before .before .before .before .before .before .before .before .before .before .before .before .before .before .before .before .before .before in
+    let o = c .before .before .before .before .before .before .before .before .before .before .before .before .before .before .operand-of in
+    let f : SFits w64 (c .before .before .before .d2 .given .0 .0) = record { sfits = c .before .before .known-told4 .given .0 .1 } in
+    let e : number.Is (c .before .before .before .d2 .given .0 .0) ≡ smiOf (elems s (c .before .before .before .before .before .before .before .before .before .before .op .given .0 .0)) = rw (c .before .before .before .before .before .before .before .pool .given .1) (ap smiOf (sym (c .before .before .before .d2 .given .1) ∙ c .before .before .before .before .before .array-elem-in .ensures (rw (c .before .before .before .before .before .before .before .pool .given .1) at blocked))) in
+    at-distance (elems s) (s .args .flow) (s .args .instr) (o .result) (o .ensures) (c .before .here2 .result) (c .before .before .before .d2 .given .0 .0) (e ∙ of-pool (elems s) (s .args .flow .pool) (o .result) (index.Is (c .before .before .before .before .before .before .before .before .before .before .op .given .0 .0)) (not-false _ (c .before .before .before .before .before .before .before .before .before .before .before .before .if2 .left)) (rw (c .before .before .before .before .before .before .before .before .before .before .op .given .1))) (c .before .here2 .ensures) (simp (toZ-ofZ f) at (c .target-by2 .ensures))
 
 pub jump-target-in-spec : {M : Type 1} → statement M
 jump-target-in-spec =
@@ -117,10 +127,13 @@ jump-target-in-spec =
     returns-3
     enum-known-op
     returns-4
-    cast-pool-elem-in
-    pool-elem-in-requires
-    enum-known-d-2
+    enum-known-pool
+    enum-told-2
     returns-5
+    cast-array-elem-in
+    array-elem-in-requires
+    enum-known-d-2
+    returns-6
     here-requires-2
     target-by-requires-2
-    returns-6)
+    returns-7)
