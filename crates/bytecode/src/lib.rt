@@ -11,7 +11,7 @@ ghost use Rattle.laws.specs.Ascii.{ascii};
 ghost use Rattle.text.specs.Put.{Put};
 ghost use Rattle.text.specs.Texts.{decimal, signedDecimal};
 ghost use Rattle.tables.specs.Texts.{typeName, runtimeName, intrinsicName};
-ghost use Rattle.tables.specs.Layout.{signedValue};
+ghost use Rattle.layout.specs.Layout.{signedValue};
 ghost use Rattle.flow.specs.Opcodes.{opcodesOf};
 ghost use Rattle.decoder.specs.Listed.{decodes};
 ghost use Rattle.bytecode.specs.Texts.{parameterIndex, paramName, regName, listName, operandText, instrName};

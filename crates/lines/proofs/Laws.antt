@@ -6,7 +6,7 @@ use mathlib.Core.List.{[], _++_}
 use native.Mathlib.Omega.{arith}
 use lib.IntN.{ℤ}
 use Rattle.laws.specs.Ascii.{ascii}
-use Rattle.tables.specs.declared.Frame.{Frame}
+use Rattle.layout.specs.declared.Frame.{Frame}
 use Rattle.decoder.specs.declared.Instr.{Instr}
 use Rattle.bytecode.specs.Texts.{NameFiles, operandText}
 use Rattle.serializer.specs.declared.Elem.{Elem}

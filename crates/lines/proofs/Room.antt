@@ -11,7 +11,7 @@ use Rattle.laws.proofs.Scan.{first-within}
 use Rattle.words.specs.Signed.{wrap32, listLast, negative, eqZ}
 use Rattle.text.specs.Texts.{signedDecimal, hexByte, hexBytes}
 use Rattle.text.proofs.Texts.{either, digits-few, next-length}
-use Rattle.tables.specs.declared.Frame.{Frame}
+use Rattle.layout.specs.declared.Frame.{Frame}
 use Rattle.tables.specs.Names.{nameAt, isZero}
 use Rattle.tables.specs.Records.{opcodeNameSize, opcodeStart}
 use Rattle.tables.specs.Texts.{runtimeName, intrinsicName}

@@ -115,7 +115,7 @@ fn opcode_ok(s: &[u8], at: usize, known: usize) -> bool
         return false;
     }
     let end = at + OPCODE_SIZE;
-    crate::names::zeros_end(s, used, end) == end
+    crate::names::all_zero(&s[used..end])
 }
 
 // The first place from from, below to, whose byte is no type's number; to where there is none.

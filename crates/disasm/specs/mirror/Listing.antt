@@ -4,8 +4,8 @@ use mathlib.Core.List.{List}
 use lib.ListN.{take, drop}
 use Rattle.text.specs.declared.Written.{Written}
 use Rattle.store.specs.declared.Object.{Object}
-use Rattle.tables.specs.declared.Layout.{Layout}
-use Rattle.tables.specs.Layout.{layoutOf}
+use Rattle.layout.specs.declared.Layout.{Layout}
+use Rattle.layout.specs.Layout.{layoutOf}
 use Rattle.header.specs.declared.Header.{Header}
 use Rattle.header.specs.mirror.Header.{headerSearched}
 use Rattle.targets.specs.declared.Pool.{Pool}

@@ -7,6 +7,7 @@ use Rattle.laws.specs.Scan.{firstFrom}
 use Rattle.tables.specs.Records.{noType}
 use Rattle.tables.specs.Names.{notZero}
 use Rattle.tables.proofs.Laws.{opcode-mark, opcode-count, opcode-types, opcode-zeros}
+use Rattle.tables.proofs.Fields.{zeros-part}
 use borrow.Author.Needs.{needs}
 use Rattle.tables.proofs.records.opcode_ok.Statement.{statement}
 use Rattle.tables.proofs.records.opcode_ok.Tie as tie
@@ -51,18 +52,17 @@ returns-3 c =
 add-end : tie.Need-add-end
 add-end c = search needs
 
-zeros-end-requires : tie.Need-zeros-end-requires
-zeros-end-requires c κs = search needs
-
 returns-4 : tie.Need-returns-4
 returns-4 c =
-    let a = c .before .before .before .before .before .before .before .before .args in
-    let b = c .before .before .before .before .byte-at2 .ensures in
-    let n : a .at + 42 + c .before .before .before .before .byte-at2 .result - (a .at + 42) ≡ c .before .before .before .before .byte-at2 .result = omega arith in
-    ap (λ (k : ℕ). eqb k (a .at + 64)) (c .zeros-end .ensures)
+    let d = c .before .before in
+    let a = d .before .before .before .before .before .before .before .args in
+    let b = d .before .before .before .byte-at2 .ensures in
+    let m = d .before .before .before .byte-at2 .result in
+    let n : a .at + 42 + m - (a .at + 42) ≡ m = omega arith in
+    c .all-zero .ensures ∙ zeros-part (now (a .s)) (a .at + 42 + m) (a .at + 64) (d .before .before .before .before .before .before .before .pre) (omega arith)
     ∙ ap (λ (m : ℕ). eqb (firstFrom (notZero (now (a .s))) (a .at + 42 + m) (a .at + 64 - (a .at + 42 + m))) (a .at + 64)) b
-    ∙ opcode-zeros (now (a .s)) (a .at) (a .known) (rw (← c .before .before .before .before .before .before .byte-at .ensures) (c .before .before .before .before .before .if1 .left)) (rw (← b) (c .before .before .before .if2 .left)) (c .before .before .types-end .result)
-    (c .before .before .types-end .ensures ∙ ap (λ (k : ℕ). firstFrom (noType (now (a .s)) (a .known)) (a .at + 42) k) (n ∙ b)) (rw (← b) (c .before .if3 .left))
+    ∙ opcode-zeros (now (a .s)) (a .at) (a .known) (rw (← d .before .before .before .before .before .byte-at .ensures) (d .before .before .before .before .if1 .left)) (rw (← b) (d .before .before .if2 .left)) (d .before .types-end .result)
+    (d .before .types-end .ensures ∙ ap (λ (k : ℕ). firstFrom (noType (now (a .s)) (a .known)) (a .at + 42) k) (n ∙ b)) (rw (← b) (d .if3 .left))
 
 pub opcode-ok-spec : {M : Type 1} → statement M
 opcode-ok-spec =
@@ -80,5 +80,8 @@ opcode-ok-spec =
     types-end-requires
     returns-3
     add-end
-    zeros-end-requires
+    (λ c. search needs)
+    (λ c. search needs)
+    (λ c. search needs)
+    (λ c κs. search needs)
     returns-4)

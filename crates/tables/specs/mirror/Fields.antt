@@ -1,0 +1,16 @@
+-- Fields of names as the code tests them, many bytes at a time; `plain-name` of proofs/Fields.antt ties them to `nameOk`.
+use Prim.Native.Nat.{ℕ, _+_, _<_, _≤_, max}
+use mathlib.Core.Path.{_≡_}
+use mathlib.Core.List.{List}
+use mathlib.Core.Bool.{Bool, true, _||_}
+use lib.Dec.{eqb}
+use lib.ListN.{getD}
+use Rattle.tables.specs.Names.{isName}
+
+-- a byte that may stand before c in a field with a name: a character, or a zero before a zero
+unfoldable pub isFine : ℕ → ℕ → Bool
+isFine b c = isName b || eqb (max b c) 0
+
+-- the bytes from place from, below to, may each stand before the next
+abbrev pub Fine : List ℕ → ℕ → ℕ → Type 0
+Fine s from to = (k : ℕ) → from ≤ k → k < to → isFine (getD s k 0) (getD s (k + 1) 0) ≡ true
