@@ -12,7 +12,7 @@ ghost use Rattle.graph.specs.Lists.{any};
 ghost use Rattle.graph.specs.Graph.{Answer, isStart, Succ, exits};
 ghost use Rattle.graph.specs.mirror.Queue.{Held, Grown, SuccIn, Quiet, Lowest, lowerOf};
 ghost use Rattle.targets.specs.Targets.{smiOf, targetFrom};
-ghost use Rattle.targets.specs.mirror.Search.{poolSearched};
+ghost use Rattle.targets.specs.mirror.Search.{poolSearched, PoolBlocked};
 ghost use Rattle.search.specs.mirror.Kept.{sizeOf, hereOf, countOf, shown, entriesFrom, targetSteps, tableSteps, onSteps, graphBy};
 ghost use Rattle.search.specs.mirror.Kept.{offHeads, Goes, Below, foundAs, findingAs, Fits, IsFound};
 
@@ -53,13 +53,25 @@ pub fn search(
     if queue.len() < n {
         return Searched::Closed;
     }
-    search_in(slots, payload, ts, pool, heads, words, marks, queue)
+    let blocks = targets::pool_blocks(slots, ts, pool);
+    search_in(
+        slots,
+        payload,
+        &blocks,
+        ts,
+        pool,
+        heads,
+        words,
+        marks,
+        queue,
+    )
 }
 
 // The search in room that fits.
 fn search_in(
     slots: &[u8],
     payload: &[u8],
+    blocks: &[u32],
     ts: u8,
     pool: Pool,
     heads: &[u32],
@@ -67,7 +79,8 @@ fn search_in(
     marks: &mut [u8],
     queue: &mut [u16],
 ) -> Searched
-    requires { ⌜ Fits (now heads) (now marks) (now queue) ⌝ }
+    requires { ⌜ Fits (now heads) (now marks) (now queue)
+        × PoolBlocked (now slots) ts pool (now blocks) ⌝ }
     ensures { λ r. ⌜ IsFound (graphBy (now (slots .entry)) (now (payload .entry)) ts pool (now (heads .entry)) (now (words .entry)))
         (length (now (heads .entry))) r (now (marks .exit)) ⌝ }
 {
@@ -75,13 +88,14 @@ fn search_in(
     if head_at(heads, 0) == 0 {
         return Searched::Closed;
     }
-    levels(slots, payload, ts, pool, heads, words, marks, queue)
+    levels(slots, payload, blocks, ts, pool, heads, words, marks, queue)
 }
 
 // Level after level, until one has an entry that exits or nothing new is reached.
 fn levels(
     slots: &[u8],
     payload: &[u8],
+    blocks: &[u32],
     ts: u8,
     pool: Pool,
     heads: &[u32],
@@ -90,7 +104,8 @@ fn levels(
     queue: &mut [u16],
 ) -> Searched
     requires { ⌜ Held (now marks) (now queue) 0 × (length (now marks) ≡ length (now heads))
-        × (isStart (graphBy (now slots) (now payload) ts pool (now heads) (now words)) 0 ≡ true) ⌝ }
+        × (isStart (graphBy (now slots) (now payload) ts pool (now heads) (now words)) 0 ≡ true)
+        × PoolBlocked (now slots) ts pool (now blocks) ⌝ }
     ensures { λ r. ⌜ Answer (graphBy (now (slots .entry)) (now (payload .entry)) ts pool (now (heads .entry)) (now (words .entry)))
         (length (now (heads .entry))) (now (marks .exit)) (findingAs r) ⌝ }
 {
@@ -98,12 +113,35 @@ fn levels(
     let mut hi = push(marks, queue, 0, 0);
     let mut d = 0;
     while lo < hi {
-        let f = lowest(slots, payload, ts, pool, heads, words, queue, lo, hi);
+        let f = lowest(
+            slots,
+            payload,
+            blocks,
+            ts,
+            pool,
+            heads,
+            words,
+            queue,
+            lo,
+            hi,
+        );
         if let Found::At(o) = f {
             let steps = d + 1;
             return Searched::Leaves(steps, o);
         }
-        let end = push_level(slots, payload, ts, pool, heads, words, marks, queue, lo, hi);
+        let end = push_level(
+            slots,
+            payload,
+            blocks,
+            ts,
+            pool,
+            heads,
+            words,
+            marks,
+            queue,
+            lo,
+            hi,
+        );
         lo = hi;
         hi = end;
         d += 1;
@@ -115,6 +153,7 @@ fn levels(
 fn lowest(
     slots: &[u8],
     payload: &[u8],
+    blocks: &[u32],
     ts: u8,
     pool: Pool,
     heads: &[u32],
@@ -123,7 +162,8 @@ fn lowest(
     lo: usize,
     hi: usize,
 ) -> Found
-    requires { ⌜ (lo ≤ hi) × (hi ≤ length (now queue)) ⌝ }
+    requires { ⌜ (lo ≤ hi) × (hi ≤ length (now queue))
+        × PoolBlocked (now slots) ts pool (now blocks) ⌝ }
     ensures { λ r. ⌜ Lowest (graphBy (now (slots .entry)) (now (payload .entry)) ts pool (now (heads .entry)) (now (words .entry)))
         (now (queue .entry)) lo hi (foundAs r) ⌝ }
 {
@@ -132,7 +172,7 @@ fn lowest(
     while i < hi {
         let o = queue[i];
         i += 1;
-        if exits(slots, payload, ts, pool, heads, words, o) {
+        if exits(slots, payload, blocks, ts, pool, heads, words, o) {
             f = lower(f, o);
         }
     }
@@ -158,6 +198,7 @@ fn lower(f: Found, o: u16) -> Found
 fn push_level(
     slots: &[u8],
     payload: &[u8],
+    blocks: &[u32],
     ts: u8,
     pool: Pool,
     heads: &[u32],
@@ -168,7 +209,8 @@ fn push_level(
     hi: usize,
 ) -> usize
     requires { ⌜ Held (now marks) (now queue) hi × (length (now marks) ≡ length (now heads)) × (lo ≤ hi)
-        × Quiet (graphBy (now slots) (now payload) ts pool (now heads) (now words)) (now queue) lo hi ⌝ }
+        × Quiet (graphBy (now slots) (now payload) ts pool (now heads) (now words)) (now queue) lo hi
+        × PoolBlocked (now slots) ts pool (now blocks) ⌝ }
     ensures { λ r. ⌜ Grown (now (queue .entry)) hi (now (marks .exit)) (now (queue .exit)) r
         (SuccIn (graphBy (now (slots .entry)) (now (payload .entry)) ts pool (now (heads .entry)) (now (words .entry)))
         (now (queue .entry)) lo hi) ⌝ }
@@ -177,7 +219,19 @@ fn push_level(
     let mut i = lo;
     while i < hi {
         let o = queue[i];
-        end = push_steps(slots, payload, ts, pool, heads, words, o, marks, queue, end);
+        end = push_steps(
+            slots,
+            payload,
+            blocks,
+            ts,
+            pool,
+            heads,
+            words,
+            o,
+            marks,
+            queue,
+            end,
+        );
         i += 1;
     }
     end
@@ -187,12 +241,14 @@ fn push_level(
 fn exits(
     slots: &[u8],
     payload: &[u8],
+    blocks: &[u32],
     ts: u8,
     pool: Pool,
     heads: &[u32],
     words: &[u32],
     o: u16,
 ) -> bool
+    requires { ⌜ PoolBlocked (now slots) ts pool (now blocks) ⌝ }
     ensures { λ r. ⌜ r ≡ exits (graphBy (now (slots .entry)) (now (payload .entry)) ts pool (now (heads .entry)) (now (words .entry))) o ⌝ }
 {
     let h = head_at(heads, o as usize);
@@ -203,7 +259,7 @@ fn exits(
         return true;
     }
     if h / 1024 % 2 == 1 {
-        return table_leaves(slots, payload, ts, pool, heads, words, o, h);
+        return table_leaves(slots, payload, blocks, ts, pool, heads, words, o, h);
     }
     false
 }
@@ -233,6 +289,7 @@ fn target_leaves(heads: &[u32], words: &[u32], o: u16, h: u32) -> bool
 fn table_leaves(
     slots: &[u8],
     payload: &[u8],
+    blocks: &[u32],
     ts: u8,
     pool: Pool,
     heads: &[u32],
@@ -240,6 +297,7 @@ fn table_leaves(
     o: u16,
     h: u32,
 ) -> bool
+    requires { ⌜ PoolBlocked (now slots) ts pool (now blocks) ⌝ }
     ensures { λ r. ⌜ r ≡ any (offHeads (now (heads .entry)))
         (entriesFrom (poolSearched (now (slots .entry)) (now (payload .entry)) ts pool) (hereOf o h)
         (getD (now (words .entry)) o 0) (countOf h)) ⌝ }
@@ -249,7 +307,15 @@ fn table_leaves(
     let count = h / 4096;
     let mut k: u32 = 0;
     while k < count {
-        let target = entry_target(slots, payload, ts, pool, at, first as u64 + k as u64);
+        let target = entry_target(
+            slots,
+            payload,
+            blocks,
+            ts,
+            pool,
+            at,
+            first as u64 + k as u64,
+        );
         if off_target(heads, target) {
             return true;
         }
@@ -272,6 +338,7 @@ fn off_target(heads: &[u32], target: Target) -> bool
 fn push_steps(
     slots: &[u8],
     payload: &[u8],
+    blocks: &[u32],
     ts: u8,
     pool: Pool,
     heads: &[u32],
@@ -282,7 +349,8 @@ fn push_steps(
     tail: usize,
 ) -> usize
     requires { ⌜ Held (now marks) (now queue) tail × (length (now marks) ≡ length (now heads))
-        × (exits (graphBy (now slots) (now payload) ts pool (now heads) (now words)) o ≡ false) ⌝ }
+        × (exits (graphBy (now slots) (now payload) ts pool (now heads) (now words)) o ≡ false)
+        × PoolBlocked (now slots) ts pool (now blocks) ⌝ }
     ensures { λ r. ⌜ Grown (now (queue .entry)) tail (now (marks .exit)) (now (queue .exit)) r
         (Succ (graphBy (now (slots .entry)) (now (payload .entry)) ts pool (now (heads .entry)) (now (words .entry))) o) ⌝ }
 {
@@ -290,7 +358,19 @@ fn push_steps(
     let a = push_on(o, h, marks, queue, tail);
     let b = push_target(words, o, h, marks, queue, a);
     if h / 1024 % 2 == 1 {
-        return push_table(slots, payload, ts, pool, words, o, h, marks, queue, b);
+        return push_table(
+            slots,
+            payload,
+            blocks,
+            ts,
+            pool,
+            words,
+            o,
+            h,
+            marks,
+            queue,
+            b,
+        );
     }
     b
 }
@@ -329,6 +409,7 @@ fn push_target(
 fn push_table(
     slots: &[u8],
     payload: &[u8],
+    blocks: &[u32],
     ts: u8,
     pool: Pool,
     words: &[u32],
@@ -339,7 +420,8 @@ fn push_table(
     tail: usize,
 ) -> usize
     requires { ⌜ Held (now marks) (now queue) tail
-        × Below (entriesFrom (poolSearched (now slots) (now payload) ts pool) (hereOf o h) (getD (now words) o 0) (countOf h)) (length (now marks)) ⌝ }
+        × Below (entriesFrom (poolSearched (now slots) (now payload) ts pool) (hereOf o h) (getD (now words) o 0) (countOf h)) (length (now marks))
+        × PoolBlocked (now slots) ts pool (now blocks) ⌝ }
     ensures { λ r. ⌜ Grown (now (queue .entry)) tail (now (marks .exit)) (now (queue .exit)) r
         (Goes (entriesFrom (poolSearched (now (slots .entry)) (now (payload .entry)) ts pool) (hereOf o h)
         (getD (now (words .entry)) o 0) (countOf h))) ⌝ }
@@ -350,7 +432,15 @@ fn push_table(
     let mut end = tail;
     let mut k: u32 = 0;
     while k < count {
-        let target = entry_target(slots, payload, ts, pool, at, first as u64 + k as u64);
+        let target = entry_target(
+            slots,
+            payload,
+            blocks,
+            ts,
+            pool,
+            at,
+            first as u64 + k as u64,
+        );
         end = push_entry(target, marks, queue, end);
         k += 1;
     }
@@ -382,10 +472,19 @@ fn push(marks: &mut [u8], queue: &mut [u16], tail: usize, t: usize) -> usize
 }
 
 // Where the entry with element n goes, its distance counted from place at; nowhere where it is skipped.
-fn entry_target(slots: &[u8], payload: &[u8], ts: u8, pool: Pool, at: u64, n: u64) -> Target
+fn entry_target(
+    slots: &[u8],
+    payload: &[u8],
+    blocks: &[u32],
+    ts: u8,
+    pool: Pool,
+    at: u64,
+    n: u64,
+) -> Target
+    requires { ⌜ PoolBlocked (now slots) ts pool (now blocks) ⌝ }
     ensures { λ r. ⌜ r ≡ targetFrom at (smiOf (poolSearched (now (slots .entry)) (now (payload .entry)) ts pool n)) ⌝ }
 {
-    let Elem::Smi(v) = targets::pool_elem(slots, payload, ts, pool, n) else {
+    let Elem::Smi(v) = targets::pool_elem_in(slots, payload, blocks, ts, pool, n) else {
         return Target::Nothing;
     };
     Target::At(words::target_after(at, v))

@@ -8,7 +8,7 @@ use targets::Table;
 use targets::Target;
 ghost use mathlib.Core.Path.{_≡_};
 ghost use Rattle.targets.specs.Targets.{found, jumpTarget};
-ghost use Rattle.targets.specs.mirror.Search.{poolSearched};
+ghost use Rattle.targets.specs.mirror.Search.{poolSearched, PoolBlocked};
 ghost use Rattle.search.specs.mirror.Kept.{wordOf};
 ghost use Rattle.steps.specs.Steps.{toTarget};
 ghost use Rattle.steps.specs.mirror.Keeping.{prefixOf, keptEnd, keptOn, keptTo, keptTable, keptOf};
@@ -20,25 +20,54 @@ pub struct Kept {
     pub refused: bool,
 }
 
-// What is kept of an instruction of so many bytes.
+// What is kept of an instruction of so many bytes, by a summary of the pool's slots.
 pub fn kept_of(
     slots: &[u8],
     payload: &[u8],
+    blocks: &[u32],
     ts: u8,
     pool: Pool,
     flow: Flow,
     instr: Instr,
     size: u8,
 ) -> Kept
-    ensures { λ r. ⌜ r ≡ keptOf (poolSearched (now (slots .entry)) (now (payload .entry)) ts pool) (found pool) flow instr size ⌝ }
+    ensures { λ r. ⌜ (PoolBlocked (now (slots .entry)) ts pool (now (blocks .entry))
+        → r ≡ keptOf (poolSearched (now (slots .entry)) (now (payload .entry)) ts pool) (found pool) flow instr size) ⌝ }
 {
     let kind = flow.kind;
     match kind {
         Kind::On => kept_on(size),
         Kind::Ends => kept_end(size),
-        Kind::Jumps => kept_jump(slots, payload, ts, pool, flow, instr, size as u32 + 512),
-        Kind::Branches => kept_jump(slots, payload, ts, pool, flow, instr, size as u32 + 768),
-        Kind::JumpsBack => kept_jump(slots, payload, ts, pool, flow, instr, size as u32 + 512),
+        Kind::Jumps => kept_jump(
+            slots,
+            payload,
+            blocks,
+            ts,
+            pool,
+            flow,
+            instr,
+            size as u32 + 512,
+        ),
+        Kind::Branches => kept_jump(
+            slots,
+            payload,
+            blocks,
+            ts,
+            pool,
+            flow,
+            instr,
+            size as u32 + 768,
+        ),
+        Kind::JumpsBack => kept_jump(
+            slots,
+            payload,
+            blocks,
+            ts,
+            pool,
+            flow,
+            instr,
+            size as u32 + 512,
+        ),
         Kind::Switch => kept_table(
             targets::jump_table_unchecked(pool, flow, instr),
             prefix_of(instr.scale),
@@ -73,15 +102,17 @@ pub fn kept_on(size: u8) -> Kept
 fn kept_jump(
     slots: &[u8],
     payload: &[u8],
+    blocks: &[u32],
     ts: u8,
     pool: Pool,
     flow: Flow,
     instr: Instr,
     head: u32,
 ) -> Kept
-    ensures { λ r. ⌜ r ≡ keptTo head (jumpTarget (poolSearched (now (slots .entry)) (now (payload .entry)) ts pool) flow instr) ⌝ }
+    ensures { λ r. ⌜ (PoolBlocked (now (slots .entry)) ts pool (now (blocks .entry))
+        → r ≡ keptTo head (jumpTarget (poolSearched (now (slots .entry)) (now (payload .entry)) ts pool) flow instr)) ⌝ }
 {
-    let target = targets::jump_target_unchecked(slots, payload, ts, pool, flow, instr);
+    let target = targets::jump_target_in(slots, payload, blocks, ts, pool, flow, instr);
     Kept {
         head,
         word: word_of(target),

@@ -21,7 +21,7 @@ ghost use Rattle.decoder.specs.Decode.{decodeAt};
 ghost use Rattle.flow.specs.Opcodes.{opcodesOf};
 ghost use Rattle.tables.specs.Records.{prefixOp};
 ghost use Rattle.targets.specs.Targets.{found};
-ghost use Rattle.targets.specs.mirror.Search.{poolSearched};
+ghost use Rattle.targets.specs.mirror.Search.{poolSearched, PoolBlocked};
 ghost use Rattle.search.specs.mirror.Kept.{findingAs};
 ghost use Rattle.steps.specs.mirror.Keeping.{keptOf};
 ghost use Rattle.function.specs.Files.{Files, filesOf, lentFiles};
@@ -364,6 +364,42 @@ fn keep_code(
         (sourceOf (now (code .entry)) (now (opcodes .entry)) (now (types .entry)) (now (slots .entry)) (now (payload .entry)) f)
         (now (heads .exit)) (now (words .exit)) r ⌝ }
 {
+    let pool = f.pool;
+    let blocks = targets::pool_blocks(slots, f.ts, pool);
+    keep_all(
+        code,
+        opcodes,
+        types,
+        slots,
+        payload,
+        &blocks,
+        flows,
+        f,
+        heads,
+        words,
+    )
+}
+
+// The same with a summary of the pool's slots.
+fn keep_all(
+    code: &[u8],
+    opcodes: &[u8],
+    types: &[u8],
+    slots: &[u8],
+    payload: &[u8],
+    blocks: &[u32],
+    flows: &[u8],
+    f: Function,
+    heads: &mut [u32],
+    words: &mut [u32],
+) -> Check
+    requires { ⌜ Tabled (now opcodes) (now flows) f × (length (now code) ≤ 65536) × (length (now heads) ≡ length (now code))
+        × (length (now words) ≡ length (now code)) × Clear (now heads)
+        × PoolBlocked (now slots) (f .ts) (f .pool) (now blocks) ⌝ }
+    ensures { λ r. ⌜ Started
+        (sourceOf (now (code .entry)) (now (opcodes .entry)) (now (types .entry)) (now (slots .entry)) (now (payload .entry)) f)
+        (now (heads .exit)) (now (words .exit)) r ⌝ }
+{
     let mut check = Check::Ok;
     let mut i: usize = 0;
     while i < code.len() {
@@ -376,7 +412,18 @@ fn keep_code(
                 let end = x.end;
                 let size = end - i;
                 let flow = flow::flow_in(flows, x.opcode);
-                let k = keep_at(code, opcodes, types, slots, payload, f, flow, i, size as u8);
+                let k = keep_at(
+                    code,
+                    opcodes,
+                    types,
+                    slots,
+                    payload,
+                    blocks,
+                    f,
+                    flow,
+                    i,
+                    size as u8,
+                );
                 check = kept_check(check, k.refused, i);
                 heads[i] = k.head;
                 words[i] = k.word;
@@ -394,11 +441,13 @@ fn keep_at(
     types: &[u8],
     slots: &[u8],
     payload: &[u8],
+    blocks: &[u32],
     f: Function,
     flow: Flow,
     i: usize,
     size: u8,
 ) -> Kept
+    requires { ⌜ PoolBlocked (now slots) (f .ts) (f .pool) (now blocks) ⌝ }
     ensures { λ r. ⌜ r ≡ keptOf (poolSearched (now (slots .entry)) (now (payload .entry)) (f .ts) (f .pool)) (found (f .pool)) flow
         (decodeAt (now (code .entry)) (opcodesOf (now (opcodes .entry))) (now (types .entry)) i (f .frame .«reg_file_start») (f .wide) (f .extra) .instr)
         size ⌝ }
@@ -407,7 +456,18 @@ fn keep_at(
     match kind {
         Kind::On => steps::kept_on(size),
         Kind::Ends => steps::kept_end(size),
-        _ => keep_jump(code, opcodes, types, slots, payload, f, flow, i, size),
+        _ => keep_jump(
+            code,
+            opcodes,
+            types,
+            slots,
+            payload,
+            blocks,
+            f,
+            flow,
+            i,
+            size,
+        ),
     }
 }
 
@@ -417,11 +477,13 @@ fn keep_jump(
     types: &[u8],
     slots: &[u8],
     payload: &[u8],
+    blocks: &[u32],
     f: Function,
     flow: Flow,
     i: usize,
     size: u8,
 ) -> Kept
+    requires { ⌜ PoolBlocked (now slots) (f .ts) (f .pool) (now blocks) ⌝ }
     ensures { λ r. ⌜ r ≡ keptOf (poolSearched (now (slots .entry)) (now (payload .entry)) (f .ts) (f .pool)) (found (f .pool)) flow
         (decodeAt (now (code .entry)) (opcodesOf (now (opcodes .entry))) (now (types .entry)) i (f .frame .«reg_file_start») (f .wide) (f .extra) .instr)
         size ⌝ }
@@ -438,7 +500,7 @@ fn keep_jump(
         f.extra,
     );
     let instr = d.instr;
-    steps::kept_of(slots, payload, f.ts, pool, flow, instr, size)
+    steps::kept_of(slots, payload, blocks, f.ts, pool, flow, instr, size)
 }
 
 // Number 16 for a table that is refused, behind the faults before it.

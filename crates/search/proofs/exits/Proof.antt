@@ -16,7 +16,7 @@ on-leaves-requires c κs = search needs
 
 returns : tie.Need-returns
 returns c =
-    let a = c .before .before .before .before .before .before .before .args in
+    let a = c .before .before .before .before .before .before .before .before .args in
     sym (exits-on (poolSearched (now (a .slots)) (now (a .payload)) (a .ts) (a .pool)) (now (a .heads)) (now (a .words)) (a .o) _ (c .before .before .head-at .ensures) (sym (c .before .on-leaves .ensures) ∙ c .if1 .taken))
 
 target-leaves-requires : tie.Need-target-leaves-requires
@@ -24,7 +24,7 @@ target-leaves-requires c κs = search needs
 
 returns-2 : tie.Need-returns-2
 returns-2 c =
-    let a = c .before .before .before .before .before .before .before .before .before .args in
+    let a = c .before .before .before .before .before .before .before .before .before .before .args in
     sym (exits-target (poolSearched (now (a .slots)) (now (a .payload)) (a .ts) (a .pool)) (now (a .heads)) (now (a .words)) (a .o) _ (c .before .before .before .before .head-at .ensures) (sym (c .before .target-leaves .ensures) ∙ c .if2 .taken))
 
 table-leaves-requires : tie.Need-table-leaves-requires
@@ -32,14 +32,14 @@ table-leaves-requires c κs = search needs
 
 returns-3 : tie.Need-returns-3
 returns-3 c =
-    let a = c .before .before .before .before .before .before .before .before .before .before .before .args in
+    let a = c .before .before .before .before .before .before .before .before .before .before .before .before .args in
     let el = poolSearched (now (a .slots)) (now (a .payload)) (a .ts) (a .pool) in
     c .table-leaves .ensures ∙ ap (any (offHeads (now (a .heads)))) (sym (table-yes (a .o) _ (now (a .words)) el (c .before .if3 .taken)))
     ∙ sym (exits-table el (now (a .heads)) (now (a .words)) (a .o) _ (c .before .before .before .before .before .before .head-at .ensures) (sym (c .before .before .before .before .before .on-leaves .ensures) ∙ c .before .before .before .before .if1 .left) (sym (c .before .before .before .target-leaves .ensures) ∙ c .before .before .if2 .left))
 
 returns-4 : tie.Need-returns-4
 returns-4 c =
-    let a = c .before .before .before .before .before .before .before .before .before .before .args in
+    let a = c .before .before .before .before .before .before .before .before .before .before .before .args in
     let el = poolSearched (now (a .slots)) (now (a .payload)) (a .ts) (a .pool) in
     sym (exits-table el (now (a .heads)) (now (a .words)) (a .o) _ (c .before .before .before .before .before .head-at .ensures) (sym (c .before .before .before .before .on-leaves .ensures) ∙ c .before .before .before .if1 .left) (sym (c .before .before .target-leaves .ensures) ∙ c .before .if2 .left)
     ∙ ap (any (offHeads (now (a .heads)))) (table-no (a .o) _ (now (a .words)) el (c .if3 .left)))

@@ -11,32 +11,32 @@ head-at-requires c κs = search needs
 
 push-on-requires : tie.Need-push-on-requires
 push-on-requires c κs =
-    let s = c .before .before .before .before .before .before .before .before .before in
+    let s = c .before .before .before .before .before .before .before .before .before .before in
     let a = s .args in
     (s .pre .0, on-below (poolSearched (now (a .slots)) (now (a .payload)) (a .ts) (a .pool)) (now (a .heads)) (now (a .words)) (a .o) _ (c .before .before .head-at .ensures) (s .pre .2) _ (s .pre .1))
 
 push-target-requires : tie.Need-push-target-requires
 push-target-requires c κs =
-    let s = c .before .before .before .before .before .before .before .before .before .before .before .before .before .before .before .before in
+    let s = c .before .before .before .before .before .before .before .before .before .before .before .before .before .before .before .before .before in
     let a = s .args in
     (c .before .before .before .before .before .before .push-on .ensures .held, target-below (poolSearched (now (a .slots)) (now (a .payload)) (a .ts) (a .pool)) (now (a .heads)) (now (a .words)) (a .o) _ (c .before .before .before .before .before .before .before .before .before .head-at .ensures) (s .pre .2) _ (c .before .before .before .before .before .before .push-on .kept .1 .1 .0 ∙ s .pre .1))
 
 push-table-requires : tie.Need-push-table-requires
 push-table-requires c κs =
-    let s = c .before .before .before .before .before .before .before .before .before .before .before .before .before .before .before .before .before .before .before .before .before .before .before .before in
+    let s = c .before .before .before .before .before .before .before .before .before .before .before .before .before .before .before .before .before .before .before .before .before .before .before .before .before in
     let a = s .args in
     let el = poolSearched (now (a .slots)) (now (a .payload)) (a .ts) (a .pool) in
-    (c .before .before .before .before .before .before .before .push-target .ensures .held, below-read (table-yes (a .o) _ (now (a .words)) el (c .before .before .if1 .taken)) refl (table-below el (now (a .heads)) (now (a .words)) (a .o) _ (c .before .before .before .before .before .before .before .before .before .before .before .before .before .before .before .before .before .head-at .ensures) (s .pre .2) _ (c .before .before .before .before .before .before .before .push-target .kept .1 .1 .1 .0 ∙ c .before .before .before .before .before .before .before .before .before .before .before .before .before .before .push-on .kept .1 .1 .0 ∙ s .pre .1)))
+    (c .before .before .before .before .before .before .before .push-target .ensures .held, below-read (table-yes (a .o) _ (now (a .words)) el (c .before .before .if1 .taken)) refl (table-below el (now (a .heads)) (now (a .words)) (a .o) _ (c .before .before .before .before .before .before .before .before .before .before .before .before .before .before .before .before .before .head-at .ensures) (s .pre .2) _ (c .before .before .before .before .before .before .before .push-target .kept .1 .1 .1 .0 ∙ c .before .before .before .before .before .before .before .before .before .before .before .before .before .before .push-on .kept .1 .1 .0 ∙ s .pre .1)), s .pre .3)
 
 same-length : tie.Need-same-length
-same-length c = c .before .before .before .before .push-table .kept .1 .1 .1 .1 .1 .1 .1 .0 ∙ c .before .before .before .before .before .before .before .before .before .before .before .before .push-target .kept .1 .1 .1 .0 ∙ c .before .before .before .before .before .before .before .before .before .before .before .before .before .before .before .before .before .before .before .push-on .kept .1 .1 .0
+same-length c = c .before .before .before .before .push-table .kept .1 .1 .1 .1 .1 .1 .1 .1 .0 ∙ c .before .before .before .before .before .before .before .before .before .before .before .before .push-target .kept .1 .1 .1 .0 ∙ c .before .before .before .before .before .before .before .before .before .before .before .before .before .before .before .before .before .before .before .push-on .kept .1 .1 .0
 
 same-length-2 : tie.Need-same-length-2
-same-length-2 c = c .before .before .before .before .push-table .kept .1 .1 .1 .1 .1 .1 .1 .1 .0 ∙ c .before .before .before .before .before .before .before .before .before .before .before .before .push-target .kept .1 .1 .1 .1 .0 ∙ c .before .before .before .before .before .before .before .before .before .before .before .before .before .before .before .before .before .before .before .push-on .kept .1 .1 .1 .0
+same-length-2 c = c .before .before .before .before .push-table .kept .1 .1 .1 .1 .1 .1 .1 .1 .1 .0 ∙ c .before .before .before .before .before .before .before .before .before .before .before .before .push-target .kept .1 .1 .1 .1 .0 ∙ c .before .before .before .before .before .before .before .before .before .before .before .before .before .before .before .before .before .before .before .push-on .kept .1 .1 .1 .0
 
 returns : tie.Need-returns
 returns c =
-    let s = c .before .before .before .before .before .before .before .before .before .before .before .before .before .before .before .before .before .before .before .before .before .before .before .before .before .before .before .before .before in
+    let s = c .before .before .before .before .before .before .before .before .before .before .before .before .before .before .before .before .before .before .before .before .before .before .before .before .before .before .before .before .before .before in
     let a = s .args in
     let el = poolSearched (now (a .slots)) (now (a .payload)) (a .ts) (a .pool) in
     grown-parts el (now (a .heads)) (now (a .words)) (a .o) _ (c .before .before .before .before .before .before .before .before .before .before .before .before .before .before .before .before .before .before .before .before .before .before .head-at .ensures) (s .pre .2) (c .before .before .before .before .before .before .before .before .before .before .before .before .before .before .before .before .before .before .before .push-on .ensures) (c .before .before .before .before .before .before .before .before .before .before .before .before .push-target .ensures)
@@ -50,7 +50,7 @@ same-length-4 c = c .before .before .before .before .before .push-target .kept .
 
 returns-2 : tie.Need-returns-2
 returns-2 c =
-    let s = c .before .before .before .before .before .before .before .before .before .before .before .before .before .before .before .before .before .before .before .before .before .before in
+    let s = c .before .before .before .before .before .before .before .before .before .before .before .before .before .before .before .before .before .before .before .before .before .before .before in
     let a = s .args in
     let el = poolSearched (now (a .slots)) (now (a .payload)) (a .ts) (a .pool) in
     grown-parts el (now (a .heads)) (now (a .words)) (a .o) _ (c .before .before .before .before .before .before .before .before .before .before .before .before .before .before .before .head-at .ensures) (s .pre .2) (c .before .before .before .before .before .before .before .before .before .before .before .before .push-on .ensures) (c .before .before .before .before .before .push-target .ensures)

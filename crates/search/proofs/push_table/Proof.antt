@@ -12,13 +12,13 @@ use Rattle.search.proofs.push_table.Statement.{statement}
 use Rattle.search.proofs.push_table.Tie as tie
 
 abbrev Inv-loop : tie.InvT-loop
-Inv-loop slots payload ts pool words o h marks₀ queue₀ tail at first count end₀ k₀ marks queue end k = Grown queue₀ tail marks queue end (Goes (entriesFrom (poolSearched slots payload ts pool) at first k)) × (length marks ≡ length marks₀) × (length queue ≡ length queue₀) × (k ≤ count)
+Inv-loop slots payload blocks ts pool words o h marks₀ queue₀ tail at first count end₀ k₀ marks queue end k = Grown queue₀ tail marks queue end (Goes (entriesFrom (poolSearched slots payload ts pool) at first k)) × (length marks ≡ length marks₀) × (length queue ≡ length queue₀) × (k ≤ count)
 
 abbrev μ-loop : tie.MeasureT-loop
-μ-loop slots payload ts pool words o h marks₀ queue₀ tail at first count end₀ k₀ marks queue end k = count - k
+μ-loop slots payload blocks ts pool words o h marks₀ queue₀ tail at first count end₀ k₀ marks queue end k = count - k
 
 abbrev start : tie.At-loop Inv-loop μ-loop → tie.Start Inv-loop μ-loop
-start i = i .before .before .before .before .before .before .before .before
+start i = i .before .before .before .before .before .before .before .before .before
 
 -- the table's entries, by the numbers that were read
 whole : (i : tie.At-loop Inv-loop μ-loop) (k : ℕ) → k ≡ countOf (start i .args .h) → let a = start i .args in
@@ -33,7 +33,7 @@ word-at-requires : tie.Need-word-at-requires Inv-loop μ-loop
 word-at-requires c κs = search needs
 
 loop-holds : tie.Need-loop-holds Inv-loop μ-loop
-loop-holds c = (entries-none _ _ _ (c .before .before .before .before .before .before .before .pre .0), refl, refl, omega arith)
+loop-holds c = (entries-none _ _ _ (c .before .before .before .before .before .before .before .before .pre .0), refl, refl, omega arith)
 
 cast-entry-target : tie.Need-cast-entry-target Inv-loop μ-loop
 cast-entry-target c = search needs

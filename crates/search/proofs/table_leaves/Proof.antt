@@ -13,13 +13,13 @@ use Rattle.search.proofs.table_leaves.Statement.{statement}
 use Rattle.search.proofs.table_leaves.Tie as tie
 
 abbrev Inv-loop : tie.InvT-loop
-Inv-loop slots payload ts pool heads words o h at first count k₀ k = (any (offHeads heads) (entriesFrom (poolSearched slots payload ts pool) at first k) ≡ false) × (k ≤ count)
+Inv-loop slots payload blocks ts pool heads words o h at first count k₀ k = (any (offHeads heads) (entriesFrom (poolSearched slots payload ts pool) at first k) ≡ false) × (k ≤ count)
 
 abbrev μ-loop : tie.MeasureT-loop
-μ-loop slots payload ts pool heads words o h at first count k₀ k = count - k
+μ-loop slots payload blocks ts pool heads words o h at first count k₀ k = count - k
 
 abbrev start : tie.At-loop Inv-loop μ-loop → tie.Start Inv-loop μ-loop
-start i = i .before .before .before .before .before .before .before
+start i = i .before .before .before .before .before .before .before .before
 
 -- the table's entries, by the numbers that were read
 whole : (i : tie.At-loop Inv-loop μ-loop) (k : ℕ) → k ≡ countOf (start i .args .h) → let a = start i .args in

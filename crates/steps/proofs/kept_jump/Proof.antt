@@ -8,14 +8,14 @@ use borrow.Author.Needs.{needs}
 use Rattle.steps.proofs.kept_jump.Statement.{statement}
 use Rattle.steps.proofs.kept_jump.Tie as tie
 
-jump-target-unchecked-requires : tie.Need-jump-target-unchecked-requires
-jump-target-unchecked-requires c κs = search needs
+jump-target-in-requires : tie.Need-jump-target-in-requires
+jump-target-in-requires c κs = search needs
 
 word-of-requires : tie.Need-word-of-requires
 word-of-requires c κs = search needs
 
 returns : tie.Need-returns
-returns c = ap (λ (w : ℕ). record { head = c .before .before .before .before .args .head; word = w; refused = false }) (c .word-of .ensures ∙ ap (λ (t : Target). wordOf (toTarget t)) (c .before .jump-target-unchecked .ensures))
+returns c = λ b. ap (λ (w : ℕ). record { head = c .before .before .before .before .before .args .head; word = w; refused = false }) (c .word-of .ensures ∙ ap (λ (t : Target). wordOf (toTarget t)) (c .before .jump-target-in .ensures b))
 
 pub kept-jump-spec : {M : Type 1} → statement M
-kept-jump-spec = tie.close (tie.spec jump-target-unchecked-requires word-of-requires returns)
+kept-jump-spec = tie.close (tie.spec jump-target-in-requires word-of-requires returns)

@@ -61,23 +61,23 @@ kept-table-requires : tie.Need-kept-table-requires
 kept-table-requires c κs = search needs
 
 returns : tie.Need-returns
-returns c = c .kept-on .ensures ∙ kept-by _ _ _ _ _ On (c .before .enum-told .given .1)
+returns c = λ b. c .kept-on .ensures ∙ kept-by _ _ _ _ _ On (c .before .enum-told .given .1)
 
 returns-2 : tie.Need-returns-2
-returns-2 c = c .kept-end .ensures ∙ kept-by _ _ _ _ _ Ends (c .before .enum-told2 .given .1)
+returns-2 c = λ b. c .kept-end .ensures ∙ kept-by _ _ _ _ _ Ends (c .before .enum-told2 .given .1)
 
 returns-3 : tie.Need-returns-3
-returns-3 c = c .kept-jump .ensures ∙ kept-by _ _ _ _ _ Jumps (c .before .enum-told3 .given .1)
+returns-3 c = λ b. c .kept-jump .ensures b ∙ kept-by _ _ _ _ _ Jumps (c .before .enum-told3 .given .1)
 
 returns-4 : tie.Need-returns-4
-returns-4 c = c .kept-jump2 .ensures ∙ kept-by _ _ _ _ _ Branches (c .before .enum-told4 .given .1)
+returns-4 c = λ b. c .kept-jump2 .ensures b ∙ kept-by _ _ _ _ _ Branches (c .before .enum-told4 .given .1)
 
 returns-5 : tie.Need-returns-5
-returns-5 c = c .kept-jump3 .ensures ∙ kept-by _ _ _ _ _ JumpsBack (c .before .enum-told5 .given .1)
+returns-5 c = λ b. c .kept-jump3 .ensures b ∙ kept-by _ _ _ _ _ JumpsBack (c .before .enum-told5 .given .1)
 
 returns-6 : tie.Need-returns-6
-returns-6 c =
-    let a = c .before .before .before .before .before .before .before .args in
+returns-6 c = λ b.
+    let a = c .before .before .before .before .before .before .before .before .args in
     c .kept-table .ensures ∙ ap (λ (t : Table). keptTable t (c .before .prefix-of .result) (a .size)) (c .before .before .jump-table-unchecked .ensures)
     ∙ ap (λ (p : ℕ). keptTable (jumpTable (found (a .pool)) (a .flow) (a .instr)) p (a .size)) (c .before .prefix-of .ensures) ∙ kept-by _ _ _ _ _ Switch (c .before .before .before .enum-told6 .given .1)
 

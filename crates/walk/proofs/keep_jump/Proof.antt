@@ -19,9 +19,9 @@ kept-of-requires c κs = search needs
 
 returns : tie.Need-returns
 returns c =
-    let a = c .before .before .before .before .before .before .before .before .before .before .args in
+    let a = c .before .before .before .before .before .before .before .before .before .before .before .args in
     let f : SFits w32 (a .f .frame .«reg_file_start») = record { sfits = c .before .before .before .struct-told .given .0 .1 } in
-    c .kept-of .ensures ∙ ap (λ (y : Decoded). keptOf (poolSearched (now (a .slots)) (now (a .payload)) (a .f .ts) (a .f .pool)) (found (a .f .pool)) (a .flow) (y .instr) (a .size)) (simp (toZ-ofZ f) at (c .before .before .decode-at .ensures))
+    c .kept-of .ensures (c .before .before .before .before .before .before .before .before .before .before .before .pre) ∙ ap (λ (y : Decoded). keptOf (poolSearched (now (a .slots)) (now (a .payload)) (a .f .ts) (a .f .pool)) (found (a .f .pool)) (a .flow) (y .instr) (a .size)) (simp (toZ-ofZ f) at (c .before .before .decode-at .ensures))
 
 pub keep-jump-spec : {M : Type 1} → statement M
 keep-jump-spec = tie.close (tie.spec decode-at-requires kept-of-requires returns)

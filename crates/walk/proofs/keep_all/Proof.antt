@@ -18,18 +18,18 @@ use Rattle.steps.proofs.Keeps.{behind, few-bytes}
 use Rattle.walk.specs.mirror.Search.{sourceOf}
 use Rattle.walk.proofs.Laws.{decoded-is}
 use Rattle.walk.proofs.Keeping.{Keeping, keeping-start, keeping-refused, keeping-end, kept-done, kept-is}
-use Rattle.walk.proofs.keep_code.Statement.{statement}
-use Rattle.walk.proofs.keep_code.Tie as tie
+use Rattle.walk.proofs.keep_all.Statement.{statement}
+use Rattle.walk.proofs.keep_all.Tie as tie
 
 abbrev Inv-loop : tie.InvT-loop
-Inv-loop code opcodes types slots payload flows f heads₀ words₀ check₀ i₀ heads words check i = Keeping (sourceOf code opcodes types slots payload f) heads words check i
+Inv-loop code opcodes types slots payload blocks flows f heads₀ words₀ check₀ i₀ heads words check i = Keeping (sourceOf code opcodes types slots payload f) heads words check i
 
 abbrev μ-loop : tie.MeasureT-loop
-μ-loop code opcodes types slots payload flows f heads₀ words₀ check₀ i₀ heads words check i = length code - i
+μ-loop code opcodes types slots payload blocks flows f heads₀ words₀ check₀ i₀ heads words check i = length code - i
 
 -- from the loop's head back to the function's entry, and what the call is about
 abbrev start : tie.At-loop Inv-loop μ-loop → tie.Start Inv-loop μ-loop
-start i = i .before .before .before .before .before .before .before .before .before
+start i = i .before .before .before .before .before .before .before .before .before .before
 
 abbrev source : tie.At-loop Inv-loop μ-loop → Source
 source i = let a = start i .args in sourceOf (now (a .code)) (now (a .opcodes)) (now (a .types)) (now (a .slots)) (now (a .payload)) (a .f)
@@ -61,7 +61,7 @@ kept c =
     kept-is (source i) (i .loop .i) x (c .keep-at .result) (ap (λ (y : Decoded). y .instr) (decoded i)) (g ∙ ap (λ (y : Extent). flowOf (now (a .opcodes)) (y .opcode)) e) (ap (λ (y : Extent). y .end - i .loop .i) e) (c .keep-at .ensures)
 
 loop-holds : tie.Need-loop-holds Inv-loop μ-loop
-loop-holds c = let p = c .before .before .before .before .before .before .before .before .pre in keeping-start _ (p .4) (p .2) (p .3)
+loop-holds c = let p = c .before .before .before .before .before .before .before .before .before .pre in keeping-start _ (p .4) (p .2) (p .3)
 
 extent-at-requires : tie.Need-extent-at-requires Inv-loop μ-loop
 extent-at-requires c κs = search needs
@@ -103,7 +103,7 @@ cast-keep-at : tie.Need-cast-keep-at Inv-loop μ-loop
 cast-keep-at c = let i = c .before .before .before .before .before in omega (arith, ends (c .before), few-bytes (source i) (i .loop .i) (done (c .before)))
 
 keep-at-requires : tie.Need-keep-at-requires Inv-loop μ-loop
-keep-at-requires c κs = search needs
+keep-at-requires c κs = ?
 
 kept-check-requires : tie.Need-kept-check-requires Inv-loop μ-loop
 kept-check-requires c κs = search needs
@@ -139,8 +139,8 @@ returns-3 c =
     let e : i .loop .i ≡ length (now (a .code)) = omega (arith, i .loop .inv .going .pass .inside, c .loop-test .left) in
     keeping-end _ (i .loop .inv) (decode-end (now (a .code)) (opcodesOf (now (a .opcodes))) (now (a .types)) (a .f .frame .«reg_file_start») _ _ (i .loop .i) e)
 
-pub keep-code-spec : {M : Type 1} → statement M
-keep-code-spec =
+pub keep-all-spec : {M : Type 1} → statement M
+keep-all-spec =
     tie.close
     (tie.spec
     Inv-loop
