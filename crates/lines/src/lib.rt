@@ -16,6 +16,7 @@ ghost use Rattle.text.specs.Put.{Put, place};
 ghost use Rattle.lines.specs.mirror.Room.{entriesOf, targetRoom, lineRoom};
 ghost use Rattle.flow.specs.Opcodes.{opcodesOf};
 ghost use Rattle.targets.specs.Targets.{found};
+ghost use Rattle.targets.specs.mirror.Search.{PoolBlocked};
 ghost use Rattle.lines.specs.Line.{before, targetText, entryText, shownAfter, entriesFrom, tableText};
 ghost use Rattle.lines.specs.mirror.View.{namesOf, elemsOf};
 ghost use Rattle.lines.specs.mirror.Parts.{placeBy, instrBy, goesBy};
@@ -57,18 +58,20 @@ pub fn put_goes(
     at: usize,
     slots: &[u8],
     payload: &[u8],
+    blocks: &[u32],
     f: Function,
     flow: Flow,
     instr: Instr,
 ) -> usize
-    ensures { λ r. ⌜ Put (now (out .entry)) at
-        (goesBy (elemsOf (now (slots .entry)) (now (payload .entry)) f) (found (f .pool)) flow instr) (now (out .exit)) r ⌝ }
+    ensures { λ r. ⌜ (PoolBlocked (now (slots .entry)) (f .ts) (f .pool) (now (blocks .entry))
+        → Put (now (out .entry)) at
+        (goesBy (elemsOf (now (slots .entry)) (now (payload .entry)) f) (found (f .pool)) flow instr) (now (out .exit)) r) ⌝ }
 {
     let kind = flow.kind;
     match kind {
         Kind::On => text::put_byte(out, at, b'\n'),
         Kind::Ends => text::put_byte(out, at, b'\n'),
-        _ => put_targets(out, at, slots, payload, f, flow, instr),
+        _ => put_targets(out, at, slots, payload, blocks, f, flow, instr),
     }
 }
 
@@ -78,19 +81,21 @@ fn put_targets(
     at: usize,
     slots: &[u8],
     payload: &[u8],
+    blocks: &[u32],
     f: Function,
     flow: Flow,
     instr: Instr,
 ) -> usize
-    ensures { λ r. ⌜ Put (now (out .entry)) at
-        (goesBy (elemsOf (now (slots .entry)) (now (payload .entry)) f) (found (f .pool)) flow instr) (now (out .exit)) r ⌝ }
+    ensures { λ r. ⌜ (PoolBlocked (now (slots .entry)) (f .ts) (f .pool) (now (blocks .entry))
+        → Put (now (out .entry)) at
+        (goesBy (elemsOf (now (slots .entry)) (now (payload .entry)) f) (found (f .pool)) flow instr) (now (out .exit)) r) ⌝ }
 {
     let pool = f.pool;
-    let target = targets::jump_target_unchecked(slots, payload, f.ts, pool, flow, instr);
+    let target = targets::jump_target_in(slots, payload, blocks, f.ts, pool, flow, instr);
     let p = put_target(out, at, target);
     let table = targets::jump_table_unchecked(pool, flow, instr);
     let here = targets::here(instr);
-    let p = put_table(out, p, slots, payload, f, here, table);
+    let p = put_table(out, p, slots, payload, blocks, f, here, table);
     text::put_byte(out, p, b'\n')
 }
 
@@ -181,18 +186,20 @@ fn put_table(
     at: usize,
     slots: &[u8],
     payload: &[u8],
+    blocks: &[u32],
     f: Function,
     here: u64,
     table: Table,
 ) -> usize
-    ensures { λ r. ⌜ Put (now (out .entry)) at (tableText (elemsOf (now (slots .entry)) (now (payload .entry)) f) here table) (now (out .exit)) r ⌝ }
+    ensures { λ r. ⌜ (PoolBlocked (now (slots .entry)) (f .ts) (f .pool) (now (blocks .entry))
+        → Put (now (out .entry)) at (tableText (elemsOf (now (slots .entry)) (now (payload .entry)) f) here table) (now (out .exit)) r) ⌝ }
 {
     match table {
         Table::Nothing => text::saturating_add(at, 0),
         Table::Refused => text::saturating_add(at, 0),
         Table::At(e) => {
             let p = text::put_bytes(out, at, b" {");
-            let p = put_entries(out, p, slots, payload, f, here, e);
+            let p = put_entries(out, p, slots, payload, blocks, f, here, e);
             text::put_bytes(out, p, b" }")
         }
     }
@@ -203,12 +210,14 @@ fn put_entries(
     at: usize,
     slots: &[u8],
     payload: &[u8],
+    blocks: &[u32],
     f: Function,
     here: u64,
     e: Entries,
 ) -> usize
-    ensures { λ r. ⌜ Put (now (out .entry)) at
-        (entriesFrom (elemsOf (now (slots .entry)) (now (payload .entry)) f) here e false 0 (e .count)) (now (out .exit)) r ⌝ }
+    ensures { λ r. ⌜ (PoolBlocked (now (slots .entry)) (f .ts) (f .pool) (now (blocks .entry))
+        → Put (now (out .entry)) at
+        (entriesFrom (elemsOf (now (slots .entry)) (now (payload .entry)) f) here e false 0 (e .count)) (now (out .exit)) r) ⌝ }
 {
     let pool = f.pool;
     let n = e.count;
@@ -216,7 +225,7 @@ fn put_entries(
     let mut shown = false;
     let mut k: u16 = 0;
     while k < n {
-        let entry = targets::jump_entry_unchecked(slots, payload, f.ts, pool, here, e, k);
+        let entry = targets::jump_entry_in(slots, payload, blocks, f.ts, pool, here, e, k);
         p = put_entry(out, p, shown, entry);
         shown = shown_after(shown, entry);
         k += 1;
