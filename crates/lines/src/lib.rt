@@ -11,8 +11,8 @@ ghost use mathlib.Core.Path.{_≡_};
 ghost use mathlib.Core.List.{[]};
 ghost use mathlib.Core.Bool.{cond, false};
 ghost use Rattle.laws.specs.Ascii.{ascii};
-ghost use Prim.Native.Nat.{_-_, min};
-ghost use Rattle.text.specs.Put.{Put, place};
+ghost use Prim.Native.Nat.{min};
+ghost use Rattle.text.specs.Put.{Put};
 ghost use Rattle.lines.specs.mirror.Room.{entriesOf, targetRoom, lineRoom};
 ghost use Rattle.flow.specs.Opcodes.{opcodesOf};
 ghost use Rattle.targets.specs.Targets.{found};
@@ -99,17 +99,14 @@ fn put_targets(
     text::put_byte(out, p, b'\n')
 }
 
-// A length that no line of this flow, instruction and table is longer than.
-pub fn line_room(flow: Flow, instr: Instr, table: Table) -> usize
-    ensures { λ r. ⌜ r ≡ place (lineRoom flow instr table) ⌝ }
+// A length that no line of an instruction of this flow, operand count, size and table is longer than.
+pub fn line_room(flow: Flow, count: u8, size: u8, table: Table) -> usize
+    ensures { λ r. ⌜ r ≡ lineRoom flow (min count 8) size table ⌝ }
 {
     let kind = flow.kind;
-    let count = text::min(instr.count, 8);
-    let size = size_of(instr);
-    let p = 110 + target_room(kind) as usize + 72 * count + 46 * entries_of(table) as usize;
-    let p = text::saturating_add(p, size);
-    let p = text::saturating_add(p, size);
-    text::saturating_add(p, size)
+    let n = text::min(count as usize, 8);
+    let p = 110 + target_room(kind) as usize + 72 * n + 46 * entries_of(table) as usize;
+    p + 3 * size as usize
 }
 
 // The room for a target.
@@ -146,15 +143,6 @@ fn put_place(out: &mut [u8], bytes: &[u8], start: usize) -> usize
     let p = text::put_bytes(out, p, b" : ");
     let p = text::put_hex_padded(out, p, bytes, 18);
     text::put_byte(out, p, b' ')
-}
-
-// How many bytes an instruction takes.
-fn size_of(instr: Instr) -> usize
-    ensures { λ r. ⌜ r ≡ instr .end - instr .offset ⌝ }
-{
-    let start = instr.offset;
-    let end = instr.end;
-    if start < end { end - start } else { 0 }
 }
 
 // What stands in front of operand k.

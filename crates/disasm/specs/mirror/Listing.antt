@@ -16,10 +16,14 @@ use Rattle.function.specs.mirror.Function.{functionOf, listedBy}
 use Rattle.lines.specs.mirror.View.{viewOf}
 use Rattle.disasm.specs.Listing.{listView, listHeader}
 
+-- the code of a header
+abbrev pub codeOf : List ℕ → Header → List ℕ
+codeOf payload h = take (h .«code_len») (drop (h .«code_at») payload)
+
 -- the listing of a header, a layout and a pool
 abbrev pub listWith : List ℕ → List ℕ → List ℕ → List ℕ → List ℕ → List ℕ → Layout → Pool → Header → List ℕ → Written × List ℕ
 listWith opcodes types runtime intrinsic slots payload l p h o =
-    let code = take (h .«code_len») (drop (h .«code_at») payload) in
+    let code = codeOf payload h in
     let f = functionOf opcodes l p (h .«parameter_count») in
     listView (viewOf code opcodes types runtime intrinsic slots payload f) h (listedBy code opcodes types f) o
 

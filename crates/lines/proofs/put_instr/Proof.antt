@@ -1,7 +1,7 @@
 use Rattle.text.specs.Put.{Put}
 use Rattle.flow.specs.Opcodes.{opcodesOf}
 use Rattle.lines.specs.mirror.Parts.{instrBy}
-use Rattle.text.proofs.Put.{kept}
+use Rattle.text.proofs.Put.{kept, then}
 use Prim.Native.Nat.{_-_, _≤_, _+_, min}
 use mathlib.Core.Path.{_≡_, refl}
 use mathlib.Core.List.{_++_}
@@ -20,18 +20,10 @@ use Rattle.targets.specs.Targets.{operandOf}
 use Rattle.targets.proofs.Laws.{operand-some}
 use Rattle.lines.specs.Line.{before, operandsBy}
 use Rattle.lines.specs.mirror.View.{namesOf}
-use Rattle.text.proofs.Put.{then}
 use Rattle.lines.proofs.PutUpTo.{PutUpTo, up-to-none, up-to-more, up-to-all, up-to-kept}
 use Rattle.lines.proofs.Laws.{operands-next, operands-end}
 use Rattle.lines.proofs.put_instr.Statement.{statement}
 use Rattle.lines.proofs.put_instr.Tie as tie
-use Rattle.lines.proofs.put_instr.Reads as reads
-use Rattle.lines.proofs.put_instr.Lts as lts
-use Rattle.bytecode.proofs.instr_name.Reads as instr-name-reads
-use Rattle.bytecode.proofs.render_operand.Reads as render-operand-reads
-use Rattle.lines.proofs.put_before.Reads as put-before-reads
-use Rattle.lines.proofs.put_place.Reads as put-place-reads
-use Rattle.text.proofs.min.Reads as min-reads
 
 abbrev Inv-loop : tie.InvT-loop
 Inv-loop out₀ bytes opcodes types runtime intrinsic f frame operands n p p₀ k₀ out p' k =
@@ -42,19 +34,15 @@ Inv-loop out₀ bytes opcodes types runtime intrinsic f frame operands n p p₀ 
 abbrev μ-loop : tie.MeasureT-loop
 μ-loop out₀ bytes opcodes types runtime intrinsic f frame operands n p p₀ k₀ out p' k = n - k
 
--- src/lib.rt:40:9
 min-requires : tie.Need-min-requires Inv-loop μ-loop
 min-requires c κs = search needs
 
--- src/lib.rt:41:9
 put-place-requires : tie.Need-put-place-requires Inv-loop μ-loop
 put-place-requires c κs = search needs
 
--- src/lib.rt:42:9
 instr-name-requires : tie.Need-instr-name-requires Inv-loop μ-loop
 instr-name-requires c κs = search needs
 
--- src/lib.rt:44:5
 loop-holds : tie.Need-loop-holds Inv-loop μ-loop
 loop-holds c = (
   omega arith,
@@ -62,31 +50,24 @@ loop-holds c = (
   λ i e m. rw sub-zero (up-to-none _ _ _ (omega (arith, c .before .before .instr-name .ensures .end))),
 )
 
--- src/lib.rt:45:21
 mul-place : tie.Need-mul-place Inv-loop μ-loop
 mul-place c = search needs
 
--- src/lib.rt:45:21
 array-copy-out-place : tie.Need-array-copy-out-place Inv-loop μ-loop
 array-copy-out-place c = search needs
 
--- src/lib.rt:47:9
 put-before-requires : tie.Need-put-before-requires Inv-loop μ-loop
 put-before-requires c κs = search needs
 
--- src/lib.rt:48:9
 render-operand-requires : tie.Need-render-operand-requires Inv-loop μ-loop
 render-operand-requires c κs = search needs
 
--- src/lib.rt:49:9
 add-k : tie.Need-add-k Inv-loop μ-loop
 add-k c = search needs
 
--- src/lib.rt:44:5
 loop-less : tie.Need-loop-less Inv-loop μ-loop
 loop-less c = search needs
 
--- src/lib.rt:44:5
 loop-again : tie.Need-loop-again Inv-loop μ-loop
 loop-again c =
     let s = c .before .before .before .before .before .before .before .before .before .before .before .before .before .before .before .before .before .before .before .before .before .before .before .before .before .before .before .before .before in
@@ -118,11 +99,9 @@ written c =
     let head = then (omega (arith, s .good)) (c .before .before .before .before .before .before .before .before .put-place .ensures) (c .before .before .before .before .instr-name .ensures) in
     then (omega (arith, s .good)) head (rw (← m) (up-to-all (operands-end names (a .f .frame) (a .f .params) (a .instr) (c .before .before .before .before .before .before .before .before .before .before .min .result) (l .k) (c .loop-test .left)) (l .inv .2 (a .instr) refl m)))
 
--- src/lib.rt:25:1
 same-length : tie.Need-same-length Inv-loop μ-loop
 same-length c = kept (written c)
 
--- src/lib.rt:25:1
 returns : tie.Need-returns Inv-loop μ-loop
 returns c = written c
 
