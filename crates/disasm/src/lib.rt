@@ -19,6 +19,7 @@ ghost use Rattle.text.specs.Put.{Put};
 ghost use Rattle.text.specs.Written.{putText};
 ghost use Rattle.text.specs.Numbers.{WrittenAs};
 ghost use Rattle.text.specs.mirror.Written.{WrittenBy};
+ghost use Rattle.targets.specs.mirror.Search.{PoolBlocked};
 ghost use Rattle.flow.specs.Flow.{Numbered};
 ghost use Rattle.flow.specs.Opcodes.{opcodesOf};
 ghost use Rattle.targets.specs.Targets.{found, jumpTable};
@@ -349,6 +350,44 @@ fn put_lines(
         (now (slots .entry)) (now (payload .entry)) f)
         (listedBy (now (code .entry)) (now (opcodes .entry)) (now (types .entry)) f .instrs)) (now (out .exit)) r ⌝ }
 {
+    let pool = f.pool;
+    let blocks = targets::pool_blocks(slots, f.ts, pool);
+    put_each(
+        out,
+        code,
+        opcodes,
+        types,
+        runtime,
+        intrinsic,
+        slots,
+        payload,
+        &blocks,
+        flows,
+        f,
+    )
+}
+
+// The same with a summary of the pool's slots.
+fn put_each(
+    out: &mut [u8],
+    code: &[u8],
+    opcodes: &[u8],
+    types: &[u8],
+    runtime: &[u8],
+    intrinsic: &[u8],
+    slots: &[u8],
+    payload: &[u8],
+    blocks: &[u32],
+    flows: &[u8],
+    f: Function,
+) -> usize
+    requires { ⌜ Numbered (now opcodes) (now flows) 256 × (codeCheck (listedBy (now code) (now opcodes) (now types) f .outcome) ≡ Ok)
+        × PoolBlocked (now slots) (f .ts) (f .pool) (now blocks) ⌝ }
+    ensures { λ r. ⌜ Put (now (out .entry)) 0 (linesText
+        (viewOf (now (code .entry)) (now (opcodes .entry)) (now (types .entry)) (now (runtime .entry)) (now (intrinsic .entry))
+        (now (slots .entry)) (now (payload .entry)) f)
+        (listedBy (now (code .entry)) (now (opcodes .entry)) (now (types .entry)) f .instrs)) (now (out .exit)) r ⌝ }
+{
     let frame = f.frame;
     let rfs = frame.reg_file_start;
     let mut p: usize = 0;
@@ -376,7 +415,7 @@ fn put_lines(
                 );
                 let at = text::saturating_add(p, w);
                 let again = d.instr;
-                p = lines::put_goes(out, at, slots, payload, f, flow, again);
+                p = lines::put_goes(out, at, slots, payload, blocks, f, flow, again);
                 i = end;
             }
         }

@@ -20,18 +20,18 @@ use Rattle.function.specs.mirror.Function.{decodedBy}
 use Rattle.lines.specs.mirror.View.{viewOf}
 use Rattle.lines.proofs.PutUpTo.{up-to-kept}
 use Rattle.disasm.proofs.Passing.{WriteInv, write-start, write-end, refused-at, end-at, done-at}
-use Rattle.disasm.proofs.put_lines.Statement.{statement}
-use Rattle.disasm.proofs.put_lines.Tie as tie
+use Rattle.disasm.proofs.put_each.Statement.{statement}
+use Rattle.disasm.proofs.put_each.Tie as tie
 
 abbrev Inv-loop : tie.InvT-loop
-Inv-loop out₀ code opcodes types runtime intrinsic slots payload flows f rfs p₀ i₀ out p i = WriteInv (viewOf code opcodes types runtime intrinsic slots payload f) (decodedBy code opcodes types f) (length code) out₀ 0 out p i
+Inv-loop out₀ code opcodes types runtime intrinsic slots payload blocks flows f rfs p₀ i₀ out p i = WriteInv (viewOf code opcodes types runtime intrinsic slots payload f) (decodedBy code opcodes types f) (length code) out₀ 0 out p i
 
 abbrev μ-loop : tie.MeasureT-loop
-μ-loop out₀ code opcodes types runtime intrinsic slots payload flows f rfs p₀ i₀ out p i = length code - i
+μ-loop out₀ code opcodes types runtime intrinsic slots payload blocks flows f rfs p₀ i₀ out p i = length code - i
 
 -- from the loop's head back to the function's entry
 abbrev start : tie.At-loop Inv-loop μ-loop → tie.Start Inv-loop μ-loop
-start l = l .before .before .before .before .before .before .before .before .before .before .before .before
+start l = l .before .before .before .before .before .before .before .before .before .before .before .before .before
 
 -- what is decoded at the place that the loop stands at
 decoded-is : (c : tie.After-decode-at Inv-loop μ-loop) → let a = start (c .before .before) .args in
@@ -54,7 +54,7 @@ progress c =
     rw e (past (now (a .code)) (opcodesOf (now (a .opcodes))) (now (a .types)) (a .f .frame .«reg_file_start») (a .f .wide) (a .f .extra) (l .loop .i) (done c))
 
 loop-holds : tie.Need-loop-holds Inv-loop μ-loop
-loop-holds c = let a = c .before .before .before .before .before .before .before .before .before .before .before .args in write-start _ _ _ (now (a .out)) 0 (omega arith)
+loop-holds c = let a = c .before .before .before .before .before .before .before .before .before .before .before .before .args in write-start _ _ _ (now (a .out)) 0 (omega arith)
 
 decode-at-requires : tie.Need-decode-at-requires Inv-loop μ-loop
 decode-at-requires c κs = search needs
@@ -131,7 +131,7 @@ loop-again c =
     let first = part (l .loop .out) (c .before .before .before .before .before .before .before .before .before .before .before .min .ensures) (rw bytes at (c .before .before .before .before .before .before .before .before .put-instr .ensures)) (c .before .before .before .before .before .saturating-add .ensures) in
     done-at _ _ _ (l .loop .inv) x (decoded-is (c .before .before .before .before .before .before .before .before .before .before .before .before .before .before .before .before)) (omega (arith, s .good)) (c .before .before .before .before .before .before .before .before .before .before .before .before .before .enum-told3 .given .1) (q .0) (q .1)
     (rw (line-parts (viewOf (now (a .code)) (now (a .opcodes)) (now (a .types)) (now (a .runtime)) (now (a .intrinsic)) (now (a .slots)) (now (a .payload)) (a .f)) (flowOf (now (a .opcodes)) (x .instr .opcode)) (x .instr))
-    (then (omega (arith, s .good, up-to-kept (l .loop .inv .lines))) first (rw flow at (c .before .before .put-goes .ensures))))
+    (then (omega (arith, s .good, up-to-kept (l .loop .inv .lines))) first (rw flow at (c .before .before .put-goes .ensures (s .pre .2)))))
 
 same-length-3 : tie.Need-same-length-3 Inv-loop μ-loop
 same-length-3 c = up-to-kept (c .before .loop .inv .lines)
@@ -143,8 +143,8 @@ returns-3 c =
     let e : l .loop .i ≡ length (now (a .code)) = omega (arith, l .loop .inv .pass .inside, c .loop-test .left) in
     write-end _ _ _ (l .loop .inv) (decode-end (now (a .code)) (opcodesOf (now (a .opcodes))) (now (a .types)) (a .f .frame .«reg_file_start») (a .f .wide) (a .f .extra) (l .loop .i) e)
 
-pub put-lines-spec : {M : Type 1} → statement M
-put-lines-spec =
+pub put-each-spec : {M : Type 1} → statement M
+put-each-spec =
     tie.close
     (tie.spec
     Inv-loop
