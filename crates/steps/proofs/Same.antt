@@ -1,7 +1,7 @@
 -- From each start the steps that the code goes through are those of the walks, and the graph is lawful. Assumes nothing.
 use Prim.Native.Nat.{ℕ, zero, suc, _+_, _<_, _≤_, _^_}
 use mathlib.Core.Path.{_≡_, refl, sym, ap, subst, _∙_}
-use mathlib.Core.Bool.{Bool, true, false, cond, _&&_}
+use mathlib.Core.Bool.{Bool, true, false, cond}
 use mathlib.Core.List.{List, [], _∷_, _++_, map, List·Memᴰ as Among, List·Memᴰ·head, List·Memᴰ·tail}
 use mathlib.Core.Logic.{⊎-elim}
 use native.Mathlib.Omega.{arith}
@@ -223,7 +223,7 @@ few-by true (index.Is start) (number.Is n) base = few-sized start n base
 
 few-table : (pooled : Bool) (flow : Flow) (i : Instr) → Few (jumpTable pooled flow i)
 unfolding jumpTable
-few-table pooled flow i = by-test Few (isSwitch (flow .kind) && eqb (i .scale) 1) (λ h. few-by pooled _ _ _) (λ h. tt)
+few-table pooled flow i = by-test Few (isSwitch (flow .kind)) (λ h. few-by pooled _ _ _) (λ h. tt)
 
 ways-length : (el : ℕ → Elem) (at : ℕ) (s : Entries) (e k n : ℕ) → length (entryWays el at s e k n) ≡ suc n
 unfolding entryWays
