@@ -11,7 +11,7 @@ const MOST_ENTRIES: usize = 4_096;
 const MOST_OBJECTS: usize = 65_536;
 const MOST_SLOTS: usize = 1_048_576;
 
-/// Code over slots of equal index is so many times shorter than it could be; time is in proportion to it.
+/// The Rust looks at each slot for each element: it lists code that is so many times shorter, in time that is in proportion.
 const SHORTER: usize = 64;
 /// Bytes of the longest listing and some more.
 const ROOM: usize = 1 << 30;
@@ -28,20 +28,26 @@ struct Case {
     files: Files,
     /// Bytes of code.
     code: usize,
-    /// How many times as long it takes at the limits.
-    grows: usize,
-    /// Whether the Rust lists it in reasonable time.
-    rust: bool,
+    rust: Rust,
 }
 
-const CASES: [fn() -> Case; 5] = [one_byte, switches, objects, equal_slots, both];
+/// What the Rust lists beside it.
+enum Rust {
+    Same,
+    /// Another function, whose code is `SHORTER` times shorter.
+    Shorter(Files),
+    Nothing,
+}
+
+const CASES: [fn() -> Case; 7] =
+    [one_byte, switches, objects, equal_slots, both, lower_references, few_each];
 
 pub fn report() -> Result<(), String> {
     println!("Worst cases within document 01's limits: milliseconds of processor time.");
     println!("listing, walk: our whole calls, the buffer as long as the listing; rust: render_sfi where it can be had.");
-    println!("grows: how many times as long it takes with code of 65,536 bytes.");
-    let [a, b, c, d, e, f] = ["case", "bytes", "listing", "walk", "rust", "grows"];
-    println!("{a:<24} {b:>6} {c:>10} {d:>10} {e:>10} {f:>6}");
+    println!("A time of the Rust with /{SHORTER} behind it is for code that is so many times shorter.");
+    let [a, b, c, d, e] = ["case", "bytes", "listing", "walk", "rust"];
+    println!("{a:<24} {b:>6} {c:>10} {d:>10} {e:>13}");
     for case in CASES {
         println!("{}", line(&case())?);
     }
@@ -49,13 +55,14 @@ pub fn report() -> Result<(), String> {
 }
 
 fn line(case: &Case) -> Result<String, String> {
-    let Case { name, files, code, grows, rust } = case;
+    let Case { name, files, code, rust } = case;
     let mut room = Room::of(ROOM);
-    let size = ours::list(&lent(files), 0, &mut room.bytes).map_err(|r| format!("{name}: {r}"))?;
     let rust = match rust {
-        true => format!("{:.1}", rusts(&mut room, case, size)?),
-        false => "-".into(),
+        Rust::Same => format!("{:.1}", rusts(&mut room, name, files)?),
+        Rust::Shorter(shorter) => format!("{:.1}/{SHORTER}", rusts(&mut room, name, shorter)?),
+        Rust::Nothing => "-".into(),
     };
+    let size = ours::list(&lent(files), 0, &mut room.bytes).map_err(|r| format!("{name}: {r}"))?;
     // In a buffer that is just long enough a listing is measured first and then written.
     let listing =
         milliseconds(|| ours::list(&lent(files), 0, &mut room.bytes[..size]).unwrap_or(0));
@@ -67,14 +74,15 @@ fn line(case: &Case) -> Result<String, String> {
     if answer != Ok(ours::Walked::Closed) {
         return Err(format!("{name}: {answer:?}, not closed"));
     }
-    Ok(format!("{name:<24} {code:>6} {listing:>10.1} {walk:>10.1} {rust:>10} {grows:>6}"))
+    Ok(format!("{name:<24} {code:>6} {listing:>10.1} {walk:>10.1} {rust:>13}"))
 }
 
-/// The Rust's time. Its listing is the one of so many bytes in the room.
-fn rusts(room: &mut Room, case: &Case, size: usize) -> Result<f64, String> {
-    let port = Port::new(&case.files, TABLE | STORE)?;
+/// The Rust's time. Its listing is ours.
+fn rusts(room: &mut Room, name: &str, files: &Files) -> Result<f64, String> {
+    let port = Port::new(files, TABLE | STORE)?;
     let taken = milliseconds(|| room.rust(&port));
-    alike(room, size, case.name)?;
+    let size = ours::list(&lent(files), 0, &mut room.bytes).map_err(|r| format!("{name}: {r}"))?;
+    alike(room, size, name)?;
     Ok(taken)
 }
 
@@ -95,8 +103,7 @@ fn one_byte() -> Case {
         name: "one-byte instructions",
         files: sample::function(&code, 8, &[]),
         code: code.len(),
-        grows: 1,
-        rust: true,
+        rust: Rust::Same,
     }
 }
 
@@ -108,7 +115,7 @@ fn switches() -> Case {
     let mut files = sample::function(&code, 8, &[]);
     set_record(&mut files, TYPES, 11, &type_record(TYPE_NAMES[11], 2, true));
     add_pool(&mut files, &[switch.len() as i32; MOST_ENTRIES], 0);
-    Case { name: "switches", files, code: code.len(), grows: 1, rust: true }
+    Case { name: "switches", files, code: code.len(), rust: Rust::Same }
 }
 
 /// All objects but the function over the same slots of equal index. An index that falls in front of these, where no object has it, makes
@@ -123,26 +130,56 @@ fn objects() -> Case {
     let object = Object { first, count, ..Object::default() };
     files.body[OBJECTS].extend(object.bytes().repeat(MOST_OBJECTS - 1));
     // The Rust's objects own their slots: there is no room for them.
-    Case { name: "objects", files, code: 1, grows: 1, rust: false }
+    Case { name: "objects", files, code: 1, rust: Rust::Nothing }
 }
 
 /// Each jump looks its distance up behind all slots of the pool.
 fn equal_slots() -> Case {
     let jump = [JUMP_CONSTANT, 0];
-    let code = repeated(&jump, MOST_CODE / SHORTER);
-    let mut files = sample::function(&code, 8, &[]);
-    add_pool(&mut files, &[jump.len() as i32], MOST_SLOTS);
-    Case { name: "equal slots", files, code: code.len(), grows: SHORTER, rust: true }
+    over_pool("equal slots", &jump, |files| add_pool(files, &[jump.len() as i32], MOST_SLOTS))
 }
 
 /// Each switch does so for five entries: a walk stops after an index that is 5 lower than the one sought, so that a sixth entry costs little.
 fn both() -> Case {
-    const ENTRIES: u8 = 5;
-    let switch = [SWITCH, 0, ENTRIES, 0];
-    let code = repeated(&switch, MOST_CODE / SHORTER);
-    let mut files = sample::function(&code, 8, &[]);
-    add_pool(&mut files, &[switch.len() as i32; ENTRIES as usize], MOST_SLOTS);
-    Case { name: "both", files, code: code.len(), grows: SHORTER, rust: true }
+    let switch = [SWITCH, 0, NEAR as u8, 0];
+    let elements = [switch.len() as i32; NEAR];
+    over_pool("both", &switch, |files| add_pool(files, &elements, MOST_SLOTS))
+}
+
+/// The slots in front of the elements are references of the index below: each is an element, but not one that is sought.
+fn lower_references() -> Case {
+    let switch = [SWITCH, 1, NEAR as u8 - 1, 0];
+    let elements = [switch.len() as i32; NEAR];
+    over_pool("references", &switch, |files| {
+        let other = Slot { index: 2, kind: 2, ..Slot::default() };
+        add_pool_behind(files, &elements, other, MOST_SLOTS);
+    })
+}
+
+/// As many entries as there may be, and each behind as many slots as there can then be: no block of slots is empty for all of them.
+fn few_each() -> Case {
+    let [low, high] = (MOST_ENTRIES as u16).to_le_bytes();
+    let switch = [SWITCH, 0, low, high, 0];
+    over_pool("few each", &switch, |files| {
+        set_record(files, TYPES, 11, &type_record(TYPE_NAMES[11], 2, true));
+        add_spread_pool(files, &[switch.len() as i32; MOST_ENTRIES], MOST_SLOTS - 8);
+    })
+}
+
+/// Elements that lie near enough for a walk not to stop between them.
+const NEAR: usize = 5;
+
+/// Code of one instruction over a pool.
+fn over_pool(name: &'static str, instruction: &[u8], pool: impl Fn(&mut Files)) -> Case {
+    let of = |size| {
+        let code = repeated(instruction, size);
+        let mut files = sample::function(&code, 8, &[]);
+        pool(&mut files);
+        (files, code.len())
+    };
+    let (files, code) = of(MOST_CODE);
+    let (shorter, _) = of(MOST_CODE / SHORTER);
+    Case { name, files, code, rust: Rust::Shorter(shorter) }
 }
 
 // ---- records ----
@@ -167,6 +204,11 @@ fn add_slots(files: &mut Files, slot: Slot, until: usize) {
 /// Makes object 1 the function's pool: its elements in one run, and behind it slots of the run's index that hold nothing, until there are
 /// so many slots.
 fn add_pool(files: &mut Files, elements: &[i32], slots: usize) {
+    add_pool_behind(files, elements, Slot { index: 2, ..Slot::default() }, slots);
+}
+
+/// The same with another slot behind the run.
+fn add_pool_behind(files: &mut Files, elements: &[i32], behind: Slot, slots: usize) {
     let reference = Slot { index: 2, kind: 1, number: 1, ..Slot::default() };
     set_record(files, SLOTS, 1, &reference.bytes());
     let first = files.count(SLOTS);
@@ -178,7 +220,30 @@ fn add_pool(files: &mut Files, elements: &[i32], slots: usize) {
     let count = Slot { index: 1, kind: 4, number, length: 8, ..Slot::default() };
     let run = Slot { index: 2, kind: 4, number: number + 8, length, ..Slot::default() };
     files.body[SLOTS].extend([count.bytes(), run.bytes()].concat());
-    add_slots(files, Slot { index: 2, ..Slot::default() }, slots);
+    add_slots(files, behind, slots);
+    finish_pool(files, first, length);
+}
+
+/// Makes object 1 the function's pool: each element in a run of its own, and behind it as many slots of its index that hold nothing as there
+/// may be in so many slots.
+fn add_spread_pool(files: &mut Files, elements: &[i32], slots: usize) {
+    let reference = Slot { index: 2, kind: 1, number: 1, ..Slot::default() };
+    set_record(files, SLOTS, 1, &reference.bytes());
+    let first = files.count(SLOTS);
+    let each = (slots - first) / elements.len();
+    for (i, value) in elements.iter().enumerate() {
+        let (index, number) = (2 + i as u32, files.body[PAYLOAD].len() as u32);
+        files.body[PAYLOAD].extend(((*value as u32 as u64) << 32).to_le_bytes());
+        let run = Slot { index, kind: 4, number, length: 8, ..Slot::default() };
+        files.body[SLOTS].extend(run.bytes());
+        let until = first + (i + 1) * each;
+        add_slots(files, Slot { index, ..Slot::default() }, until);
+    }
+    finish_pool(files, first, 8 * elements.len() as u32);
+}
+
+/// The pool's object, over the slots from number first on.
+fn finish_pool(files: &mut Files, first: usize, length: u32) {
     let count = (files.count(SLOTS) - first) as u32;
     let pool = Object { first: first as u32, count, byte_size: 16 + length, ..Object::default() };
     files.body[OBJECTS].extend(pool.bytes());

@@ -7,11 +7,11 @@ use Rattle.refusal.specs.declared.Check.{Check}
 use Rattle.refusal.specs.declared.Refusal.{Refusal}
 use Rattle.refusal.specs.Check.{firstRefusal, refuseUnless, guarded}
 use Rattle.tables.specs.Check.{checkTable}
-use Rattle.tables.specs.Layout.{signedValue}
+use Rattle.layout.specs.Layout.{signedValue}
 use Rattle.flow.specs.Opcodes.{opcodesOf}
 use Rattle.decoder.specs.declared.Outcome.{Outcome}
 use Rattle.decoder.specs.declared.Decoded.{Decoded}
-use Rattle.decoder.specs.Head.{blank}
+use Rattle.decoder.specs.Decode.{blank}
 use Rattle.decoder.specs.Listed.{decodes}
 
 -- row 10: "lent code above 65,536 bytes"

@@ -7,9 +7,9 @@ use lib.IntN.{ℤ, pos, _-ℤ_}
 use Rattle.laws.specs.Ascii.{ascii}
 use Rattle.words.specs.Signed.{wrap32, listLast, paramNumber, negative, eqZ}
 use Rattle.text.specs.Texts.{decimal, signedDecimal}
-use Rattle.tables.specs.declared.ParamBase.{ParamBase}
-use Rattle.tables.specs.declared.ParamBase.the-variants as base
-use Rattle.tables.specs.declared.Frame.{Frame}
+use Rattle.layout.specs.declared.ParamBase.{ParamBase}
+use Rattle.layout.specs.declared.ParamBase.the-variants as base
+use Rattle.layout.specs.declared.Frame.{Frame}
 use Rattle.tables.specs.Texts.{typeName, runtimeName, intrinsicName}
 use Rattle.flow.specs.Opcodes.{Opcodes}
 use Rattle.operand.specs.declared.Operand.{Operand}

@@ -7,11 +7,13 @@ use tables::Frame;
 use tables::ParamBase;
 ghost use mathlib.Core.Path.{_≡_};
 ghost use mathlib.Core.List.{_++_};
+ghost use mathlib.Core.Bool.{cond};
+ghost use lib.Dec.{eqb};
 ghost use Rattle.laws.specs.Ascii.{ascii};
 ghost use Rattle.text.specs.Put.{Put};
 ghost use Rattle.text.specs.Texts.{decimal, signedDecimal};
 ghost use Rattle.tables.specs.Texts.{typeName, runtimeName, intrinsicName};
-ghost use Rattle.tables.specs.Layout.{signedValue};
+ghost use Rattle.layout.specs.Layout.{signedValue};
 ghost use Rattle.flow.specs.Opcodes.{opcodesOf};
 ghost use Rattle.decoder.specs.Listed.{decodes};
 ghost use Rattle.bytecode.specs.Texts.{parameterIndex, paramName, regName, listName, operandText, instrName};
@@ -90,12 +92,19 @@ pub fn instr_name(out: &mut [u8], at: usize, opcodes: &[u8], opcode: u8, scale: 
 {
     let p = text::put_bytes(out, at, tables::op_name(opcodes, opcode));
     if scale == 1 {
-        return text::saturating_add(p, 0);
+        return p;
     }
+    put_prefix(out, p, scale)
+}
+
+// The prefix behind a name. Few instructions have one: its words stand in a function of their own, and are laid out for those alone.
+fn put_prefix(out: &mut [u8], at: usize, scale: u8) -> usize
+    ensures { λ r. ⌜ Put (now (out .entry)) at (cond (eqb scale 2) (ascii ".Wide") (ascii ".ExtraWide")) (now (out .exit)) r ⌝ }
+{
     if scale == 2 {
-        text::put_bytes(out, p, b".Wide")
+        text::put_bytes(out, at, b".Wide")
     } else {
-        text::put_bytes(out, p, b".ExtraWide")
+        text::put_bytes(out, at, b".ExtraWide")
     }
 }
 

@@ -16,17 +16,17 @@ use Rattle.refusal.specs.declared.Check.the-variants.{Ok, Refused}
 use Rattle.refusal.specs.Check.{guarded, firstRefusal}
 use Rattle.refusal.specs.Numbers.{Numbers}
 use Rattle.tables.specs.Check.{checkTable}
-use Rattle.tables.specs.Layout.{signedValue}
+use Rattle.layout.specs.Layout.{signedValue}
 use Rattle.operand.specs.declared.Operand.{Operand}
 use Rattle.operand.specs.declared.Operand.the-variants.{Nothing, Reg, RegList, Imm, Idx, Flag8, Flag16, RuntimeId, IntrinsicId, Raw}
 use Rattle.operand.specs.Numbers.{operandNumbers}
 use Rattle.flow.specs.Opcodes.{Opcodes, opcodesOf, prefixWith}
-use Rattle.decoder.specs.declared.Head.{Head}
+use Rattle.prefix.specs.declared.Head.{Head}
 use Rattle.decoder.specs.declared.OperandRecord.{OperandRecord}
 use Rattle.decoder.specs.declared.Instr.{Instr}
 use Rattle.decoder.specs.declared.Outcome.{Outcome}
 use Rattle.decoder.specs.declared.Decoded.{Decoded}
-use Rattle.decoder.specs.Head.{headAt}
+use Rattle.prefix.specs.Head.{headAt}
 use Rattle.decoder.specs.Decode.{Part, partsFrom, operandTypes, partWidth, offsetOf, operandsFrom, isShort, shortNumber, recordsOf, instrOf, refusedAt, readParts, decodeHead, decodeAt}
 use Rattle.decoder.specs.Listed.{decodes}
 use Rattle.bytecode.specs.Decode.{checkCode, refusedBy, decodeOne}

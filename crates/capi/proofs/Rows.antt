@@ -12,7 +12,7 @@ use Rattle.refusal.specs.declared.Check.the-variants.{Ok, Refused}
 use Rattle.refusal.specs.Numbers.{Numbers}
 use Rattle.refusal.specs.Check.{guarded}
 use Rattle.serializer.specs.declared.Elem.{Elem}
-use Rattle.tables.specs.Layout.{signedValue}
+use Rattle.layout.specs.Layout.{signedValue}
 use Rattle.decoder.specs.declared.Outcome.{Outcome}
 use Rattle.flow.specs.Opcodes.{opcodesOf}
 use Rattle.targets.specs.Targets.{here, found, jumpTarget, jumpTable, entryAt}

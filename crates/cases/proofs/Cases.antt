@@ -7,11 +7,11 @@ use Rattle.words.specs.Signed.{modulo, wrap32, signed}
 use Rattle.text.specs.Texts.{decimal, lastDigits, hexDigit, hexByte}
 use Rattle.tables.specs.Names.{nameOk, nameAt, isNamed}
 use Rattle.tables.specs.Records.{width, firstMarked, typeNames, nameFits, sizeGood, sizeFits, opcodeOk}
-use Rattle.tables.specs.Layout.{ranges, rangeOf, layoutOf}
+use Rattle.layout.specs.Layout.{ranges, rangeOf, layoutOf}
 use Rattle.tables.specs.Texts.{runtimeName}
 use Rattle.tables.specs.Check.{wholeRecords, checkTable}
 use Rattle.operand.specs.Operand.{kinds, kindOf, ofKind, interpret, isList}
-use Rattle.decoder.specs.Head.{headAt}
+use Rattle.prefix.specs.Head.{headAt}
 use Rattle.decoder.specs.Decode.{partsFrom, readParts, decodeAt}
 use Rattle.decoder.specs.Listed.{listFrom}
 use Rattle.bytecode.specs.Decode.{decodeOne}

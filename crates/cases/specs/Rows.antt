@@ -4,10 +4,10 @@ use mathlib.Core.List.{List, [], _∷_}
 use lib.IntN.{pos}
 use lib.ListN.{replicate}
 use Rattle.laws.specs.Ascii.{ascii}
-use Rattle.tables.specs.Layout.{layoutOf}
+use Rattle.layout.specs.Layout.{layoutOf}
 use Rattle.decoder.specs.declared.Outcome.{Outcome}
 use Rattle.decoder.specs.declared.Decoded.{Decoded}
-use Rattle.decoder.specs.Head.{blank}
+use Rattle.decoder.specs.Decode.{blank}
 use Rattle.decoder.specs.Decode.{refusedAt}
 use Rattle.bytecode.specs.Decode.{decodeOne}
 use Rattle.lines.specs.Line.{View, lineText}

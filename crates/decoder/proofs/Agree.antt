@@ -24,10 +24,12 @@ use Rattle.operand.specs.declared.Step.the-variants.{Skip, Short, Read}
 use Rattle.decoder.specs.declared.OperandRecord.{OperandRecord}
 use Rattle.decoder.specs.declared.Operands.{Operands}
 use Rattle.decoder.specs.declared.Outcome.{Outcome}
-use Rattle.decoder.specs.declared.Head.{Head}
+use Rattle.prefix.specs.declared.Head.{Head}
 use Rattle.decoder.specs.declared.Decoded.{Decoded}
 use Rattle.decoder.specs.mirror.Steps.{startOps, afterStep, stepOps, runOps, operandsAt, ofOps, ofHead, stepsAt}
-use Rattle.decoder.specs.Head.{blank, headAt}
+use Rattle.decoder.specs.Decode.{blank}
+use Rattle.prefix.specs.Head.{headAt}
+use Rattle.decoder.proofs.Laws.{not-list}
 use Rattle.decoder.specs.Decode.{codesFrom, operandTypes, Part, own, count, partsFrom, partWidth, offsetOf, operandAtPart, operandsFrom, isShort, shortNumber, recordOf, recordsOf, instrOf, refusedAt, readParts, decodeHead, decodeAt}
 
 -- ---- lists of operands and their records
@@ -107,11 +109,6 @@ module _ (code types : List ℕ) (scale : ℕ) (rfs : ℤ) where
     read-state at before t next os o h =
         let n : length os + 1 ≡ length (os ++ (o ∷ [])) = sym (length-append os (o ∷ [])) in
         rw (more-records 8 os o h, n)
-
-    -- a RegCount is no list
-    not-list : (t : ℕ) → t ≡ 8 → isList t ≡ false
-    unfolding isList
-    not-list t e = rw e
 
     steps-got : (ts : List ℕ) (at before : ℕ) (os : List Operand) → length os + length ts ≤ 8
         → ofOps start opcode scale (runList ts (state at before os)) ≡ ofGot os (got (isList before) at ts)
@@ -274,7 +271,8 @@ codes-length : (ops : Opcodes) (op k n : ℕ) → length (codesFrom ops op k n) 
 codes-length ops op k zero = refl
 codes-length ops op k (suc n) = ap suc (codes-length ops op (k + 1) n)
 
-opened : (code : List ℕ) (ops : Opcodes) (types : List ℕ) (start : ℕ) (rfs : ℤ) (opcode scale at : ℕ)
+-- behind the opcode: the parts of its operands
+pub opened : (code : List ℕ) (ops : Opcodes) (types : List ℕ) (start : ℕ) (rfs : ℤ) (opcode scale at : ℕ)
     → ofOps start opcode scale (operandsAt code ops types opcode scale rfs at) ≡ readParts code types scale opcode rfs start at (partsFrom false (operandTypes ops opcode))
 unfolding readParts readWith isList
 opened code ops types start rfs opcode scale at =

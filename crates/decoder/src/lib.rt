@@ -1,13 +1,16 @@
 // One instruction at a place of the code.
 ghost use mathlib.Core.Path.{_≡_};
-ghost use Prim.Native.Nat.{_<_};
+ghost use Prim.Native.Nat.{_<_, _≤_};
+ghost use lib.IntN.{ℤ};
 ghost use lib.ListN.{length};
 ghost use Rattle.flow.specs.Opcodes.{opcodesOf};
-ghost use Rattle.decoder.specs.Decode.{decodeAt};
+ghost use Rattle.prefix.specs.declared.Head.the-variants as head;
+ghost use Rattle.decoder.specs.Decode.{blank, operandTypes, decodeHead, decodeAt};
+ghost use Rattle.decoder.specs.mirror.Extent.{sizeOf, sizeFrom, extentOf};
 ghost use Rattle.decoder.specs.mirror.Steps.{operandsAt, ofOps, stepsAt};
-ghost use Rattle.decoder.specs.Head.{blank, opAt, behind, headAt};
 use operand::Operand;
 use operand::Step;
+use prefix::Head;
 use refusal::Refusal;
 
 // One of an instruction's eight operands.
@@ -38,11 +41,12 @@ pub struct Decoded {
     pub instr: Instr,
 }
 
-// The opcode at a place, behind any prefix.
-pub enum Head {
-    End,
-    Refused(Refusal),
-    Op { opcode: u8, scale: u8, at: usize },
+// An instruction without its operands: what a pass needs that only goes from one to the next. All 0 unless the outcome is Done.
+pub struct Extent {
+    pub outcome: Outcome,
+    pub opcode: u8,
+    pub scale: u8,
+    pub end: usize,
 }
 
 // Operands as far as they are read, for contracts: before is the type code of the last one.
@@ -69,6 +73,28 @@ pub fn decode_at(
     decode_steps(code, opcodes, types, start, reg_file_start, wide, extra)
 }
 
+// The extent of the instruction at a place: decoding by sizes alone. Operands are read only where the code ends too early.
+pub fn extent_at(
+    code: &[u8],
+    opcodes: &[u8],
+    types: &[u8],
+    start: usize,
+    wide: usize,
+    extra: usize,
+) -> Extent
+    ensures { λ r. ⌜ ((rfs : ℤ) → r ≡ extentOf (decodeAt (now (code .entry)) (opcodesOf (now (opcodes .entry))) (now (types .entry))
+        start rfs wide extra)) ⌝ }
+{
+    let ops = tables::opcode_count(opcodes);
+    match prefix::head_at(code, ops, start, wide, extra) {
+        Head::End => no_extent(Outcome::End),
+        Head::Refused(refusal) => no_extent(Outcome::Refused(refusal)),
+        Head::Op { opcode, scale, at } => {
+            extent_op(code, opcodes, types, start, opcode, scale, at)
+        }
+    }
+}
+
 // No instruction.
 pub fn blank_instr() -> Instr
     ensures { λ r. ⌜ r ≡ blank ⌝ }
@@ -84,63 +110,6 @@ pub fn blank_instr() -> Instr
         count: 0,
         operands: [none; 8],
     }
-}
-
-// The opcode at place at, if a record has it; ops is the number of opcodes.
-fn op_at(code: &[u8], ops: usize, start: usize, scale: u8, at: usize) -> Head
-    requires { ⌜ at < length (now code) ⌝ }
-    ensures { λ r. ⌜ r ≡ opAt (now (code .entry)) ops start scale at ⌝ }
-{
-    let opcode = words::byte_at(code, at);
-    if ops <= opcode as usize {
-        return Head::Refused(Refusal {
-            number: refusal::NO_OPCODE,
-            place: start,
-        });
-    }
-    Head::Op {
-        opcode,
-        scale,
-        at: at + 1,
-    }
-}
-
-// The opcode behind a prefix at start; number is the refusal where the code ends there.
-fn behind_prefix(code: &[u8], ops: usize, start: usize, number: u8, scale: u8) -> Head
-    requires { ⌜ start < length (now code) ⌝ }
-    ensures { λ r. ⌜ r ≡ behind (now (code .entry)) ops start number scale ⌝ }
-{
-    let next = start + 1;
-    if next == code.len() {
-        return Head::Refused(Refusal {
-            number,
-            place: start,
-        });
-    }
-    op_at(code, ops, start, scale, next)
-}
-
-// The opcode at a place; wide and extra are the opcodes of the prefixes.
-fn head_at(code: &[u8], ops: usize, start: usize, wide: usize, extra: usize) -> Head
-    ensures { λ r. ⌜ r ≡ headAt (now (code .entry)) ops start wide extra ⌝ }
-{
-    if code.len() < start {
-        return Head::Refused(Refusal {
-            number: refusal::BEYOND_CODE,
-            place: start,
-        });
-    }
-    if start == code.len() {
-        return Head::End;
-    }
-    let prefix = words::byte_at(code, start) as usize;
-    if prefix == wide {
-        return behind_prefix(code, ops, start, refusal::ENDS_AFTER_WIDE, 2);
-    }
-    if prefix == extra {
-        return behind_prefix(code, ops, start, refusal::ENDS_AFTER_EXTRA_WIDE, 4);
-    }
-    op_at(code, ops, start, 1, start)
 }
 
 // The instruction with this opcode at a place: its operands begin at place at.
@@ -218,6 +187,82 @@ fn no_instr(outcome: Outcome, k: usize) -> Decoded
     }
 }
 
+fn no_extent(outcome: Outcome) -> Extent
+    ensures { λ r. ⌜ r ≡ extentOf (record { outcome = outcome; instr = blank }) ⌝ }
+{
+    Extent {
+        outcome,
+        opcode: 0,
+        scale: 0,
+        end: 0,
+    }
+}
+
+// The extent of the instruction with this opcode, whose operands begin at place at.
+fn extent_op(
+    code: &[u8],
+    opcodes: &[u8],
+    types: &[u8],
+    start: usize,
+    opcode: u8,
+    scale: u8,
+    at: usize,
+) -> Extent
+    ensures { λ r. ⌜ ((rfs : ℤ) → r ≡ extentOf (decodeHead (head.Op opcode scale at)
+        (now (code .entry)) (opcodesOf (now (opcodes .entry))) (now (types .entry)) start rfs)) ⌝ }
+{
+    let size = operands_size(opcodes, types, opcode, scale);
+    if operand::within_len(code.len(), at, size) {
+        return Extent {
+            outcome: Outcome::Done,
+            opcode,
+            scale,
+            end: at + size,
+        };
+    }
+    let d = decode_op(code, opcodes, types, start, opcode, scale, 0, at);
+    let outcome = d.outcome;
+    let instr = d.instr;
+    Extent {
+        outcome,
+        opcode: instr.opcode,
+        scale: instr.scale,
+        end: instr.end,
+    }
+}
+
+// How many bytes the operands of an opcode take at a scale.
+fn operands_size(opcodes: &[u8], types: &[u8], opcode: u8, scale: u8) -> usize
+    ensures { λ r. ⌜ r ≡ sizeFrom (now (types .entry)) scale 0 (operandTypes (opcodesOf (now (opcodes .entry))) opcode) ⌝ }
+{
+    let all = tables::operand_count(opcodes, opcode);
+    let n = if all < 8 { all } else { 8 };
+    let mut size: usize = 0;
+    let mut before: u8 = 0;
+    let mut k: u8 = 0;
+    while k < n {
+        let t = tables::type_code(opcodes, opcode, k);
+        size += type_size(types, scale, before, t);
+        before = t;
+        k += 1;
+    }
+    size
+}
+
+// How many bytes an operand of type code t takes, with the count that a list reads; before is the type code before it.
+fn type_size(types: &[u8], scale: u8, before: u8, t: u8) -> usize
+    ensures { λ r. ⌜ (r ≡ sizeOf (now (types .entry)) scale before t) × (r ≤ 16) ⌝ }
+{
+    if operand::counted(t, before) {
+        return 0;
+    }
+    let w = tables::type_width(types, t, scale);
+    if !operand::is_list(t) {
+        return w;
+    }
+    w + tables::type_width(types, 8, scale)
+}
+
 // The instruction at a place, step by step.
 fn decode_steps(
     code: &[u8],
@@ -230,7 +275,7 @@ fn decode_steps(
 ) -> Decoded
     ensures { λ r. ⌜ r ≡ stepsAt (now (code .entry)) (opcodesOf (now (opcodes .entry))) (now (types .entry)) start «reg_file_start» wide extra ⌝ }
 {
-    match head_at(code, tables::opcode_count(opcodes), start, wide, extra) {
+    match prefix::head_at(code, tables::opcode_count(opcodes), start, wide, extra) {
         Head::End => no_instr(Outcome::End, start % 8),
         Head::Refused(refusal) => no_instr(Outcome::Refused(refusal), start % 8),
         Head::Op { opcode, scale, at } => decode_op(

@@ -1,8 +1,8 @@
 -- Laws of the listing: what a pass says of the answer, and how long its text can be. Assumes nothing.
 use Prim.Native.Nat.{ℕ, _<_, _≤_, _^_}
 use mathlib.Core.Path.{_≡_, refl, sym, _∙_}
-use mathlib.Core.Bool.{Bool}
-use mathlib.Core.List.{List, [], _∷_, _++_}
+use mathlib.Core.Bool.{Bool, false}
+use mathlib.Core.List.{List, [], _∷_}
 use native.Mathlib.Omega.{arith}
 use lib.ListN.{length, length-append}
 use Rattle.refusal.specs.declared.Refusal.{Refusal}
@@ -18,12 +18,15 @@ use Rattle.header.specs.declared.Header.{Header}
 use Rattle.decoder.specs.declared.Instr.{Instr}
 use Rattle.decoder.specs.Listed.{Listing}
 use Rattle.flow.specs.Opcodes.{Opcodes}
+use Rattle.flow.specs.declared.Flow.{Flow}
+use Rattle.targets.specs.Targets.{isSwitch, jumpTable}
 use Rattle.lines.specs.Line.{View}
 use Rattle.lines.proofs.Room.{NamesFit, signed-room, line-room}
 use Rattle.disasm.specs.declared.Pass.{Pass}
 use Rattle.function.specs.Code.{codeCheck}
 use Rattle.disasm.specs.Listing.{headerText, linesText, listingText, listView}
 use Rattle.disasm.specs.mirror.Lines.{headerRoom, linesRoom, Checked}
+use Rattle.targets.specs.declared.Table.the-variants as table
 use Rattle.text.specs.declared.Written.the-variants as written
 
 -- ---- room
@@ -41,6 +44,11 @@ header-room h =
     (arith, digits-few (h .length), signed-room (h .«parameter_count»), digits-few (h .«register_count»), digits-few (h .«frame_size»), digits-few (h .osr), digits-few (h .age)))
 
 -- ---- the first pass
+-- what is no switch has no table
+pub no-table : (pooled : Bool) (flow : Flow) (i : Instr) → isSwitch (flow .kind) ≡ false → table.Nothing ≡ jumpTable pooled flow i
+unfolding jumpTable
+no-table pooled flow i e = rw e
+
 -- where it found nothing, decoding came to the code's end
 pub check-fine : {ops : Opcodes} {pooled : Bool} (l : Listing) {m : Pass} → Checked ops pooled l m → m .check ≡ Ok → codeCheck (l .outcome) ≡ Ok
 check-fine l c ok = or-left (codeCheck (l .outcome)) _ (sym (c .checked) ∙ ok)

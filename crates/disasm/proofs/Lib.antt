@@ -1,4 +1,5 @@
 pub mod Passing
 pub mod Laws
 pub mod Searched
+pub mod Counts
 pub mod Checking

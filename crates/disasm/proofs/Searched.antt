@@ -6,8 +6,8 @@ use Rattle.refusal.specs.declared.Check.the-variants.{Ok}
 use Rattle.store.specs.declared.Object.{Object}
 use Rattle.store.specs.Records.{objectOf}
 use Rattle.serializer.specs.declared.Elem.{Elem}
-use Rattle.tables.specs.declared.Layout.{Layout}
-use Rattle.tables.specs.Layout.{layoutOf}
+use Rattle.layout.specs.declared.Layout.{Layout}
+use Rattle.layout.specs.Layout.{layoutOf}
 use Rattle.header.specs.declared.Header.{Header}
 use Rattle.header.specs.declared.HeaderAnswer.{HeaderAnswer}
 use Rattle.header.specs.mirror.Header.{headerSearched}

@@ -11,7 +11,7 @@ use Rattle.text.specs.Written.{putText}
 use Rattle.store.specs.declared.Object.{Object}
 use Rattle.store.specs.Records.{objectOf}
 use Rattle.serializer.specs.declared.Elem.{Elem}
-use Rattle.tables.specs.Layout.{layoutOf}
+use Rattle.layout.specs.Layout.{layoutOf}
 use Rattle.header.specs.declared.Header.{Header}
 use Rattle.header.specs.declared.HeaderAnswer.{HeaderAnswer}
 use Rattle.header.specs.declared.HeaderAnswer.the-variants as header-answer

@@ -1,6 +1,8 @@
 // The listing of a function: its header counts and its instruction lines.
 
 use decoder::Outcome;
+use flow::Flow;
+use flow::Kind;
 use function::Function;
 use header::Header;
 use header::HeaderAnswer;
@@ -9,6 +11,7 @@ use refusal::Refusal;
 use store::Object;
 use tables::Layout;
 use targets::Pool;
+use targets::Table;
 use text::Written;
 ghost use mathlib.Core.Path.{_≡_};
 ghost use Rattle.refusal.specs.declared.Check.the-variants.{Ok};
@@ -16,16 +19,17 @@ ghost use Rattle.text.specs.Put.{Put};
 ghost use Rattle.text.specs.Written.{putText};
 ghost use Rattle.text.specs.Numbers.{WrittenAs};
 ghost use Rattle.text.specs.mirror.Written.{WrittenBy};
+ghost use Rattle.targets.specs.mirror.Search.{PoolBlocked};
 ghost use Rattle.flow.specs.Flow.{Numbered};
 ghost use Rattle.flow.specs.Opcodes.{opcodesOf};
-ghost use Rattle.targets.specs.Targets.{found};
+ghost use Rattle.targets.specs.Targets.{found, jumpTable};
 ghost use Rattle.function.specs.Files.{filesOf};
 ghost use Rattle.function.specs.Code.{codeCheck};
-ghost use Rattle.function.specs.mirror.Function.{listedBy};
+ghost use Rattle.function.specs.mirror.Function.{decodedBy, listedBy};
 ghost use Rattle.lines.specs.mirror.View.{viewOf};
 ghost use Rattle.disasm.specs.Listing.{headerText, linesText, listingText, listView, listCall};
 ghost use Rattle.disasm.specs.mirror.Lines.{headerRoom, Checked};
-ghost use Rattle.disasm.specs.mirror.Listing.{listWith, listSearched};
+ghost use Rattle.disasm.specs.mirror.Listing.{codeOf, listWith, listSearched};
 
 // Room for the header lines, which are shorter.
 const HEADER_ROOM: usize = 250;
@@ -137,14 +141,10 @@ fn list_header(
         (listWith (now (opcodes .entry)) (now (types .entry)) (now (runtime .entry)) (now (intrinsic .entry)) (now (slots .entry))
         (now (payload .entry)) shape pool h (now (out .entry))) r (now (out .exit)) ⌝ }
 {
-    let start = h.code_at;
-    let size = h.code_len;
-    let code = serializer::lent(payload, start, size);
     let f = function::function_of(opcodes, shape, pool, h.parameter_count);
     let flows = flow::flow_numbers(opcodes);
     list_code(
         out,
-        code,
         opcodes,
         types,
         runtime,
@@ -157,10 +157,18 @@ fn list_header(
     )
 }
 
+// The code of a header.
+fn code_of<'a>(payload: &'a [u8], h: Header) -> &'a [u8]
+    ensures { λ r. ⌜ now r ≡ codeOf (now (payload .entry)) h ⌝ }
+{
+    let start = h.code_at;
+    let size = h.code_len;
+    serializer::lent(payload, start, size)
+}
+
 // 11 to 16 first; then written, measured before only where the buffer might be too short.
 fn list_code(
     out: &mut [u8],
-    code: &[u8],
     opcodes: &[u8],
     types: &[u8],
     runtime: &[u8],
@@ -173,11 +181,11 @@ fn list_code(
 ) -> Written
     requires { ⌜ Numbered (now opcodes) (now flows) 256 ⌝ }
     ensures { λ r. ⌜ WrittenBy (listView
-        (viewOf (now (code .entry)) (now (opcodes .entry)) (now (types .entry)) (now (runtime .entry)) (now (intrinsic .entry))
+        (viewOf (codeOf (now (payload .entry)) h) (now (opcodes .entry)) (now (types .entry)) (now (runtime .entry)) (now (intrinsic .entry))
         (now (slots .entry)) (now (payload .entry)) f) h
-        (listedBy (now (code .entry)) (now (opcodes .entry)) (now (types .entry)) f) (now (out .entry))) r (now (out .exit)) ⌝ }
+        (listedBy (codeOf (now (payload .entry)) h) (now (opcodes .entry)) (now (types .entry)) f) (now (out .entry))) r (now (out .exit)) ⌝ }
 {
-    let first = check_lines(code, opcodes, types, flows, f);
+    let first = check_lines(code_of(payload, h), opcodes, types, flows, f);
     let check = first.check;
     let room = first.room;
     match check {
@@ -186,7 +194,6 @@ fn list_code(
             if room <= out.len() {
                 Written::Done(put_all(
                     out,
-                    code,
                     opcodes,
                     types,
                     runtime,
@@ -200,7 +207,6 @@ fn list_code(
             } else {
                 list_measured(
                     out,
-                    code,
                     opcodes,
                     types,
                     runtime,
@@ -219,7 +225,6 @@ fn list_code(
 // Measured; then 17; then written.
 fn list_measured(
     out: &mut [u8],
-    code: &[u8],
     opcodes: &[u8],
     types: &[u8],
     runtime: &[u8],
@@ -230,15 +235,15 @@ fn list_measured(
     f: Function,
     h: Header,
 ) -> Written
-    requires { ⌜ Numbered (now opcodes) (now flows) 256 × (codeCheck (listedBy (now code) (now opcodes) (now types) f .outcome) ≡ Ok) ⌝ }
+    requires { ⌜ Numbered (now opcodes) (now flows) 256
+        × (codeCheck (listedBy (codeOf (now payload) h) (now opcodes) (now types) f .outcome) ≡ Ok) ⌝ }
     ensures { λ r. ⌜ WrittenBy (putText (listingText
-        (viewOf (now (code .entry)) (now (opcodes .entry)) (now (types .entry)) (now (runtime .entry)) (now (intrinsic .entry))
+        (viewOf (codeOf (now (payload .entry)) h) (now (opcodes .entry)) (now (types .entry)) (now (runtime .entry)) (now (intrinsic .entry))
         (now (slots .entry)) (now (payload .entry)) f) h
-        (listedBy (now (code .entry)) (now (opcodes .entry)) (now (types .entry)) f)) (now (out .entry))) r (now (out .exit)) ⌝ }
+        (listedBy (codeOf (now (payload .entry)) h) (now (opcodes .entry)) (now (types .entry)) f)) (now (out .entry))) r (now (out .exit)) ⌝ }
 {
     let size = put_all(
         &mut out[0..0],
-        code,
         opcodes,
         types,
         runtime,
@@ -252,7 +257,6 @@ fn list_measured(
     if size <= out.len() {
         Written::Done(put_all(
             out,
-            code,
             opcodes,
             types,
             runtime,
@@ -274,7 +278,6 @@ fn list_measured(
 // The header and the lines. On an empty buffer it measures.
 fn put_all(
     out: &mut [u8],
-    code: &[u8],
     opcodes: &[u8],
     types: &[u8],
     runtime: &[u8],
@@ -285,17 +288,18 @@ fn put_all(
     f: Function,
     h: Header,
 ) -> usize
-    requires { ⌜ Numbered (now opcodes) (now flows) 256 × (codeCheck (listedBy (now code) (now opcodes) (now types) f .outcome) ≡ Ok) ⌝ }
+    requires { ⌜ Numbered (now opcodes) (now flows) 256
+        × (codeCheck (listedBy (codeOf (now payload) h) (now opcodes) (now types) f .outcome) ≡ Ok) ⌝ }
     ensures { λ r. ⌜ Put (now (out .entry)) 0 (listingText
-        (viewOf (now (code .entry)) (now (opcodes .entry)) (now (types .entry)) (now (runtime .entry)) (now (intrinsic .entry))
+        (viewOf (codeOf (now (payload .entry)) h) (now (opcodes .entry)) (now (types .entry)) (now (runtime .entry)) (now (intrinsic .entry))
         (now (slots .entry)) (now (payload .entry)) f) h
-        (listedBy (now (code .entry)) (now (opcodes .entry)) (now (types .entry)) f)) (now (out .exit)) r ⌝ }
+        (listedBy (codeOf (now (payload .entry)) h) (now (opcodes .entry)) (now (types .entry)) f)) (now (out .exit)) r ⌝ }
 {
     let p = put_header(out, 0, h);
-    put_lines(
-        out,
-        p,
-        code,
+    let q = text::min(p, out.len());
+    let w = put_lines(
+        &mut out[q..],
+        code_of(payload, h),
         opcodes,
         types,
         runtime,
@@ -304,7 +308,8 @@ fn put_all(
         payload,
         flows,
         f,
-    )
+    );
+    text::saturating_add(p, w)
 }
 
 fn put_header(out: &mut [u8], at: usize, h: Header) -> usize
@@ -325,10 +330,10 @@ fn put_header(out: &mut [u8], at: usize, h: Header) -> usize
     text::put_byte(out, p, b'\n')
 }
 
-// The lines of all instructions from place at of the buffer on, where decoding comes to the code's end.
+// The lines of all instructions, from the start of the part of the buffer that is lent, where decoding comes to the code's end. Each line is lent the
+// part behind the lines before it.
 fn put_lines(
     out: &mut [u8],
-    at: usize,
     code: &[u8],
     opcodes: &[u8],
     types: &[u8],
@@ -340,14 +345,52 @@ fn put_lines(
     f: Function,
 ) -> usize
     requires { ⌜ Numbered (now opcodes) (now flows) 256 × (codeCheck (listedBy (now code) (now opcodes) (now types) f .outcome) ≡ Ok) ⌝ }
-    ensures { λ r. ⌜ Put (now (out .entry)) at (linesText
+    ensures { λ r. ⌜ Put (now (out .entry)) 0 (linesText
+        (viewOf (now (code .entry)) (now (opcodes .entry)) (now (types .entry)) (now (runtime .entry)) (now (intrinsic .entry))
+        (now (slots .entry)) (now (payload .entry)) f)
+        (listedBy (now (code .entry)) (now (opcodes .entry)) (now (types .entry)) f .instrs)) (now (out .exit)) r ⌝ }
+{
+    let pool = f.pool;
+    let blocks = targets::pool_blocks(slots, f.ts, pool);
+    put_each(
+        out,
+        code,
+        opcodes,
+        types,
+        runtime,
+        intrinsic,
+        slots,
+        payload,
+        &blocks,
+        flows,
+        f,
+    )
+}
+
+// The same with a summary of the pool's slots.
+fn put_each(
+    out: &mut [u8],
+    code: &[u8],
+    opcodes: &[u8],
+    types: &[u8],
+    runtime: &[u8],
+    intrinsic: &[u8],
+    slots: &[u8],
+    payload: &[u8],
+    blocks: &[u32],
+    flows: &[u8],
+    f: Function,
+) -> usize
+    requires { ⌜ Numbered (now opcodes) (now flows) 256 × (codeCheck (listedBy (now code) (now opcodes) (now types) f .outcome) ≡ Ok)
+        × PoolBlocked (now slots) (f .ts) (f .pool) (now blocks) ⌝ }
+    ensures { λ r. ⌜ Put (now (out .entry)) 0 (linesText
         (viewOf (now (code .entry)) (now (opcodes .entry)) (now (types .entry)) (now (runtime .entry)) (now (intrinsic .entry))
         (now (slots .entry)) (now (payload .entry)) f)
         (listedBy (now (code .entry)) (now (opcodes .entry)) (now (types .entry)) f .instrs)) (now (out .exit)) r ⌝ }
 {
     let frame = f.frame;
     let rfs = frame.reg_file_start;
-    let mut p = text::saturating_add(at, 0);
+    let mut p: usize = 0;
     let mut i: usize = 0;
     while i < code.len() {
         let d = decoder::decode_at(code, opcodes, types, i, rfs, f.wide, f.extra);
@@ -357,45 +400,41 @@ fn put_lines(
             Outcome::Refused(_) => return p,
             Outcome::End => return p,
             Outcome::Done => {
+                let end = instr.end;
                 let flow = flow::flow_in(flows, instr.opcode);
                 let q = text::min(p, out.len());
-                let w = lines::put_line(
+                let w = lines::put_instr(
                     &mut out[q..],
-                    code,
+                    &code[i..end],
                     opcodes,
                     types,
                     runtime,
                     intrinsic,
-                    slots,
-                    payload,
                     f,
-                    flow,
                     instr,
                 );
-                p = text::saturating_add(p, w);
-                i = instr.end;
+                let at = text::saturating_add(p, w);
+                let again = d.instr;
+                p = lines::put_goes(out, at, slots, payload, blocks, f, flow, again);
+                i = end;
             }
         }
     }
     p
 }
 
-// 11 to 16, and room for the header and all lines.
+// 11 to 16, and room for the header and all lines. An instruction's operands are decoded where it is a switch.
 fn check_lines(code: &[u8], opcodes: &[u8], types: &[u8], flows: &[u8], f: Function) -> Pass
     requires { ⌜ Numbered (now opcodes) (now flows) 256 ⌝ }
     ensures { λ r. ⌜ Checked (opcodesOf (now (opcodes .entry))) (found (f .pool))
         (listedBy (now (code .entry)) (now (opcodes .entry)) (now (types .entry)) f) r ⌝ }
 {
-    let frame = f.frame;
-    let rfs = frame.reg_file_start;
-    let pool = f.pool;
     let mut p = HEADER_ROOM;
     let mut check = Check::Ok;
     let mut i: usize = 0;
     while i < code.len() {
-        let read = decoder::decode_at(code, opcodes, types, i, rfs, f.wide, f.extra);
-        let outcome = read.outcome;
-        let instr = read.instr;
+        let x = decoder::extent_at(code, opcodes, types, i, f.wide, f.extra);
+        let outcome = x.outcome;
         match outcome {
             Outcome::Refused(refusal) => {
                 return Pass {
@@ -405,13 +444,40 @@ fn check_lines(code: &[u8], opcodes: &[u8], types: &[u8], flows: &[u8], f: Funct
             }
             Outcome::End => return Pass { check, room: p },
             Outcome::Done => {
-                let flow = flow::flow_in(flows, instr.opcode);
-                let table = targets::jump_table_unchecked(pool, flow, instr);
-                check = refusal::first_refusal(check, function::table_check(table, instr.offset));
-                p = text::saturating_add(p, lines::line_room(flow, instr, table));
-                i = instr.end;
+                let end = x.end;
+                let size = end - i;
+                let flow = flow::flow_in(flows, x.opcode);
+                let table = table_at(code, opcodes, types, f, flow, i);
+                let count = tables::operand_count(opcodes, x.opcode);
+                let room = lines::line_room(flow, count, size as u8, table);
+                check = refusal::first_refusal(check, function::table_check(table, i));
+                p = text::saturating_add(p, room);
+                i = end;
             }
         }
     }
     Pass { check, room: p }
+}
+
+// The table of the instruction at a place, whose flow is known.
+fn table_at(code: &[u8], opcodes: &[u8], types: &[u8], f: Function, flow: Flow, at: usize) -> Table
+    ensures { λ r. ⌜ r ≡ jumpTable (found (f .pool)) flow
+        (decodedBy (now (code .entry)) (now (opcodes .entry)) (now (types .entry)) f at .instr) ⌝ }
+{
+    let kind = flow.kind;
+    match kind {
+        Kind::On => Table::Nothing,
+        Kind::Ends => Table::Nothing,
+        Kind::Jumps => Table::Nothing,
+        Kind::Branches => Table::Nothing,
+        Kind::JumpsBack => Table::Nothing,
+        Kind::Switch => {
+            let frame = f.frame;
+            let rfs = frame.reg_file_start;
+            let d = decoder::decode_at(code, opcodes, types, at, rfs, f.wide, f.extra);
+            let pool = f.pool;
+            let instr = d.instr;
+            targets::jump_table_unchecked(pool, flow, instr)
+        }
+    }
 }

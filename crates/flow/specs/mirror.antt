@@ -1,1 +1,1 @@
-pub mod Only
+pub mod Index

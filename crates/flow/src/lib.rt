@@ -1,13 +1,12 @@
 // What an instruction does with the flow of control, by its plain name: 01's lists in "Walks" and the Rust's list in `jump_target`
 // and `jump_table`. Later wishes read it from the opcode record instead; it stands behind `flow_of` alone.
 ghost use mathlib.Core.Path.{_≡_};
-ghost use Prim.Native.Nat.{ℕ, _<_};
+ghost use Prim.Native.Nat.{ℕ, _+_, _%_, _<_};
 ghost use mathlib.Core.List.{List};
-ghost use lib.ListN.{getD};
 ghost use Rattle.tables.specs.Records.{opcodeNameSize};
 ghost use Rattle.tables.specs.mirror.Rows.{rows};
 ghost use Rattle.flow.specs.Flow.{plain, flowNames, hasFlowName, flowNumber, flowBy, flowOf, Numbered};
-ghost use Rattle.flow.specs.mirror.Only.{OnlyIn};
+ghost use Rattle.flow.specs.mirror.Index.{placeOf, Indexed};
 
 pub enum Kind {
     // Goes to the next instruction.
@@ -52,17 +51,17 @@ pub fn flow_in(flows: &[u8], op: u8) -> Flow
 pub fn flow_numbers(opcodes: &[u8]) -> [u8; 256]
     ensures { λ r. ⌜ Numbered (now (opcodes .entry)) r 256 ⌝ }
 {
-    numbers_by(opcodes, &FLOW_NAMES)
+    numbers_by(opcodes, &FLOW_NAMES, &FLOW_INDEX)
 }
 
-fn numbers_by(opcodes: &[u8], names: &[u8]) -> [u8; 256]
-    requires { ⌜ now names ≡ rows opcodeNameSize flowNames ⌝ }
+fn numbers_by(opcodes: &[u8], names: &[u8], index: &[u8; 256]) -> [u8; 256]
+    requires { ⌜ (now names ≡ rows opcodeNameSize flowNames) × Indexed (now index) ⌝ }
     ensures { λ r. ⌜ Numbered (now (opcodes .entry)) r 256 ⌝ }
 {
     let mut flows = [0u8; 256];
     let mut op: usize = 0;
     while op < 256 {
-        let k = number_by(opcodes, tables::opcode_start(op as u8), names);
+        let k = number_by(opcodes, tables::opcode_start(op as u8), names, index);
         flows[op] = k;
         op += 1;
     }
@@ -112,7 +111,7 @@ fn plain(kind: Kind, pool: bool) -> Flow
 pub fn flow_number(opcodes: &[u8], at: usize) -> u8
     ensures { λ r. ⌜ r ≡ flowNumber (now (opcodes .entry)) at ⌝ }
 {
-    number_by(opcodes, at, &FLOW_NAMES)
+    number_by(opcodes, at, &FLOW_NAMES, &FLOW_INDEX)
 }
 
 // The 37 names, each filled up with zeros.
@@ -155,45 +154,71 @@ const FLOW_NAMES: [u8; 1480] = *b"\
     SwitchOnSmiNoFeedback\0\0\0\0\0\0\0\0\0\0\0\0\0\0\0\0\0\0\0\
     SwitchOnGeneratorState\0\0\0\0\0\0\0\0\0\0\0\0\0\0\0\0\0\0";
 
-// The number by a table of the names. The record's first byte says which it can have: for most records none, and no name is compared.
-fn number_by(opcodes: &[u8], at: usize, names: &[u8]) -> u8
-    requires { ⌜ now names ≡ rows opcodeNameSize flowNames ⌝ }
+// The number of each name at its place (`place_of`): no two names have one. Elsewhere 37, which is %.
+const FLOW_INDEX: [u8; 256] = *b"\
+    %%%%%%%%%%\x1d%%%%%\
+    %%%\x1e%\x22%\x18%%%\x01%%%%\
+    %\x19%%%%\x21%%\x12%%%%%%\
+    %%%%%%%%%%%%%%%%\
+    %\x13%%%%%%\x0e\x0f%%%%%%\
+    %\x08%%\x03%%%%%%%%%%%\
+    %%%%%%%%%%%%%\x05%\x04\
+    %%\x02%\x00%%%%%%%%%%%\
+    %%%%%%%%%%%%%%%%\
+    %%%%%%%\x10\x1f%%%\x24%%%\
+    %%%%%\x11\x15%\x23%%\x17%\x0c%%\
+    %%\x14%%\x20\x0b\x1c%%%%\x1b%%%\
+    %\x16%%\x1a%%%%%%%%%\x0a%\
+    %%%%%%%%%%%%%\x07%\x09\
+    \x06%\x0d%%%%%%%%%%%%%\
+    %%%%%%%%%%%%%%%%";
+
+// The number by both tables: at most one name is compared, and for most records none.
+fn number_by(opcodes: &[u8], at: usize, names: &[u8], index: &[u8; 256]) -> u8
+    requires { ⌜ (now names ≡ rows opcodeNameSize flowNames) × Indexed (now index) ⌝ }
     ensures { λ r. ⌜ r ≡ flowNumber (now (opcodes .entry)) at ⌝ }
 {
-    match words::byte_at(opcodes, at) {
-        b'A' => number_in(opcodes, at, names, 4, 5),
-        b'J' => number_in(opcodes, at, names, 5, 35),
-        b'R' => number_in(opcodes, at, names, 0, 4),
-        b'S' => number_of_s(opcodes, at, names),
-        b'T' => number_in(opcodes, at, names, 2, 3),
-        _ => 37,
+    let p = place_of(opcodes, at);
+    let k = index[p];
+    if 37 <= k {
+        return 37;
+    }
+    if has_flow_name(opcodes, at, names, k) {
+        k
+    } else {
+        37
     }
 }
 
-// The number where the name begins with S.
-fn number_of_s(opcodes: &[u8], at: usize, names: &[u8]) -> u8
-    requires { ⌜ (getD (now opcodes) at 0 ≡ 83) × (now names ≡ rows opcodeNameSize flowNames) ⌝ }
-    ensures { λ r. ⌜ r ≡ flowNumber (now (opcodes .entry)) at ⌝ }
+// The place of the name of the record at place at: the sum of five of its bytes.
+fn place_of(opcodes: &[u8], at: usize) -> usize
+    ensures { λ r. ⌜ r ≡ placeOf (now (opcodes .entry)) at ⌝ }
 {
-    if has_flow_name(opcodes, at, names, 1) {
-        return 1;
+    if opcodes.len() <= at {
+        return 0;
     }
-    number_in(opcodes, at, names, 35, 37)
+    if opcodes.len() - at < 25 {
+        return sum_of(
+            words::byte_at(opcodes, at + 2),
+            words::byte_at(opcodes, at + 7),
+            words::byte_at(opcodes, at + 12),
+            words::byte_at(opcodes, at + 17),
+            words::byte_at(opcodes, at + 24),
+        );
+    }
+    sum_of(
+        opcodes[at + 2],
+        opcodes[at + 7],
+        opcodes[at + 12],
+        opcodes[at + 17],
+        opcodes[at + 24],
+    )
 }
 
-// The number where only the names from from, below to, can be the record's.
-fn number_in(opcodes: &[u8], at: usize, names: &[u8], from: u8, to: u8) -> u8
-    requires { ⌜ OnlyIn (now opcodes) at from to × (now names ≡ rows opcodeNameSize flowNames) ⌝ }
-    ensures { λ r. ⌜ r ≡ flowNumber (now (opcodes .entry)) at ⌝ }
+fn sum_of(a: u8, b: u8, c: u8, d: u8, e: u8) -> usize
+    ensures { λ r. ⌜ r ≡ (a + b + c + d + e) % 256 ⌝ }
 {
-    let mut k = from;
-    while k < to {
-        if has_flow_name(opcodes, at, names, k) {
-            return k;
-        }
-        k += 1;
-    }
-    37
+    (a as usize + b as usize + c as usize + d as usize + e as usize) % 256
 }
 
 // Whether the opcode record at place at has name k, which is row k of the names.

@@ -22,8 +22,8 @@ use Rattle.serializer.specs.declared.SlotAt.the-variants as slot-at
 use Rattle.serializer.specs.Slots.{slotAt}
 use Rattle.serializer.proofs.Searched.{elem-searched, slot-searched}
 use Rattle.store.specs.declared.SlotValue.the-variants as value
-use Rattle.tables.specs.declared.Layout.{Layout}
-use Rattle.tables.specs.Layout.{layoutOf}
+use Rattle.layout.specs.declared.Layout.{Layout}
+use Rattle.layout.specs.Layout.{layoutOf}
 use Rattle.tables.specs.Check.{checkTable}
 use Rattle.header.specs.mirror.Header.{headerSearched}
 use Rattle.header.proofs.Searched.{header-searched}

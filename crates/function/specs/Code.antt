@@ -7,7 +7,7 @@ use Rattle.refusal.specs.declared.Check.{Check}
 use Rattle.refusal.specs.declared.Check.the-variants.{Ok, Refused}
 use Rattle.refusal.specs.Check.{refused, firstRefusal}
 use Rattle.store.specs.Records.{objectOf}
-use Rattle.tables.specs.Layout.{signedValue, layoutOf}
+use Rattle.layout.specs.Layout.{signedValue, layoutOf}
 use Rattle.header.specs.declared.HeaderAnswer.{HeaderAnswer}
 use Rattle.header.specs.declared.HeaderAnswer.the-variants as header-answer
 use Rattle.header.specs.Header.{headerOf}

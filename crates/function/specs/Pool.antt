@@ -8,7 +8,7 @@ use Rattle.serializer.specs.declared.SlotAt.{SlotAt}
 use Rattle.serializer.specs.declared.SlotAt.the-variants as slot-at
 use Rattle.serializer.specs.declared.Elem.{Elem}
 use Rattle.serializer.specs.Slots.{slotAt}
-use Rattle.tables.specs.Layout.{layoutOf}
+use Rattle.layout.specs.Layout.{layoutOf}
 use Rattle.targets.specs.declared.Pool.{Pool}
 use Rattle.targets.specs.declared.Pool.the-variants as pool
 use Rattle.targets.specs.Targets.{poolElem}

@@ -9,4 +9,5 @@ pub mod Steps
 pub mod Walks
 pub mod Scan
 pub mod Same
+pub mod Alike
 pub mod Examples

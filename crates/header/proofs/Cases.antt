@@ -16,7 +16,7 @@ use Rattle.serializer.specs.Down.{down}
 use Rattle.serializer.specs.Smi.{smiBytes}
 use Rattle.serializer.specs.Field.{rawAt}
 use Rattle.serializer.specs.Offset.{rtOff}
-use Rattle.tables.specs.Layout.{ranges, rangeOf, layoutOf}
+use Rattle.layout.specs.Layout.{ranges, rangeOf, layoutOf}
 use Rattle.tables.specs.Check.{wholeRecords, checkLayoutFile}
 use Rattle.header.specs.Header.{headerWith, headerBy}
 use Rattle.header.specs.Slots.{smiBy, fieldNum}

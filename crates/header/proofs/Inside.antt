@@ -12,7 +12,7 @@ use Rattle.store.specs.Records.{objectOf}
 use Rattle.serializer.specs.declared.RawAt.{RawAt}
 use Rattle.serializer.specs.Field.{rawAt}
 use Rattle.serializer.proofs.Inside.{raw-inside}
-use Rattle.tables.specs.declared.Layout.{Layout}
+use Rattle.layout.specs.declared.Layout.{Layout}
 use Rattle.header.specs.Header.{lengthBy, lengthOk, codeAt, headerWith, headerBy, headerOf, rtFor}
 use Rattle.header.specs.Calls.{checkCode}
 use Rattle.header.specs.declared.Header.{Header}

@@ -19,7 +19,7 @@ use Rattle.serializer.specs.mirror.Search.{rawSearched}
 use Rattle.serializer.specs.Calls.{checkAt}
 use Rattle.serializer.proofs.Searched.{raw-searched}
 use Rattle.serializer.proofs.Checked.{check-ordered}
-use Rattle.tables.specs.declared.Layout.{Layout}
+use Rattle.layout.specs.declared.Layout.{Layout}
 use Rattle.tables.specs.Check.{checkLayoutFile}
 use Rattle.header.specs.Header.{headerBy, headerOf, rtFor}
 use Rattle.header.specs.mirror.Header.{headerSearched}

@@ -9,7 +9,7 @@ use Rattle.store.specs.Records.{objectOf}
 use Rattle.store.specs.Check.{checkStore, checkCodeObject}
 use Rattle.serializer.specs.Field.{rawAt}
 use Rattle.serializer.specs.Calls.{checkAt}
-use Rattle.tables.specs.Layout.{layoutOf}
+use Rattle.layout.specs.Layout.{layoutOf}
 use Rattle.tables.specs.Check.{checkLayoutFile}
 use Rattle.header.specs.Header.{headerOf}
 use Rattle.header.specs.Slots.{smiBy, fieldNum}

@@ -20,9 +20,9 @@ use Rattle.serializer.specs.declared.Span.{Span}
 use Rattle.serializer.specs.Field.{rawAt}
 use Rattle.serializer.specs.Length.{smiField}
 use Rattle.serializer.specs.Offset.{rtOff}
-use Rattle.tables.specs.declared.Field.{Field}
-use Rattle.tables.specs.declared.Field.the-variants as field
-use Rattle.tables.specs.declared.Layout.{Layout}
+use Rattle.layout.specs.declared.Field.{Field}
+use Rattle.layout.specs.declared.Field.the-variants as field
+use Rattle.layout.specs.declared.Layout.{Layout}
 use Rattle.header.specs.declared.Header.{Header}
 use Rattle.header.specs.declared.HeaderAnswer.{HeaderAnswer}
 use Rattle.header.specs.declared.HeaderAnswer.the-variants as header-answer

@@ -15,10 +15,10 @@ use Rattle.serializer.specs.Slots.{slotAt}
 use Rattle.serializer.specs.Element.{elemAt}
 use Rattle.tables.specs.Names.{nameOk, nameAt, isNamed}
 use Rattle.tables.specs.Records.{width, firstMarked, typeNames, nameFits, sizeGood, sizeFits, opcodeOk}
-use Rattle.tables.specs.Layout.{ranges, rangeOf, layoutOf}
+use Rattle.layout.specs.Layout.{ranges, rangeOf, layoutOf}
 use Rattle.tables.specs.Check.{wholeRecords, checkTable}
 use Rattle.operand.specs.Operand.{kinds, kindOf, ofKind, interpret, isList}
-use Rattle.decoder.specs.Head.{headAt}
+use Rattle.prefix.specs.Head.{headAt}
 use Rattle.decoder.specs.Decode.{partsFrom, readParts, decodeAt}
 use Rattle.sample.specs.Sample.{padded, opcode, typed, opcodes, types, four, fours, layout}
 use Rattle.flow.specs.Flow.{flowNames, flows, flowNumber, flowBy}

@@ -11,7 +11,7 @@ use Rattle.laws.proofs.Scan.{first-within}
 use Rattle.words.specs.Signed.{wrap32, listLast, negative, eqZ}
 use Rattle.text.specs.Texts.{signedDecimal, hexByte, hexBytes}
 use Rattle.text.proofs.Texts.{either, digits-few, next-length}
-use Rattle.tables.specs.declared.Frame.{Frame}
+use Rattle.layout.specs.declared.Frame.{Frame}
 use Rattle.tables.specs.Names.{nameAt, isZero}
 use Rattle.tables.specs.Records.{opcodeNameSize, opcodeStart}
 use Rattle.tables.specs.Texts.{runtimeName, intrinsicName}
@@ -155,7 +155,8 @@ place-room code i =
     simp (length-append, length-replicate)
     (omega (arith, digits-few (i .offset), hex-room (bytesOf code i), length-take (i .end - i .offset) (drop (i .offset) code)))
 
-pub line-room : (v : View) → NamesFit (v .opcodes) → (flow : Flow) (i : Instr) → length (lineBy v flow i) ≤ lineRoom flow i (jumpTable (v .pooled) flow i)
+pub line-room : (v : View) → NamesFit (v .opcodes) → (flow : Flow) (i : Instr)
+    → length (lineBy v flow i) ≤ lineRoom flow (min (i .count) 8) (i .end - i .offset) (jumpTable (v .pooled) flow i)
 unfolding lineRoom lineBy jumpTarget
 line-room v short flow i =
     simp length-append (omega (
@@ -166,3 +167,8 @@ line-room v short flow i =
       target-room (flow .kind) (here i) (distanceBy (v .elem) (flow .pool) (operandOf i (flow .first))),
       table-room (v .elem) (here i) (jumpTable (v .pooled) flow i),
     ))
+
+-- room for more operands is room
+pub room-more : (flow : Flow) {m n : ℕ} (size : ℕ) (t : Table) → m ≤ n → lineRoom flow m size t ≤ lineRoom flow n size t
+unfolding lineRoom
+room-more flow size t h = omega arith

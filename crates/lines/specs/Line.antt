@@ -7,7 +7,7 @@ use lib.IntN.{ℤ}
 use lib.ListN.{take, drop, replicate}
 use Rattle.laws.specs.Ascii.{ascii}
 use Rattle.text.specs.Texts.{decimal, signedDecimal, hexBytes, padLeft, padRight}
-use Rattle.tables.specs.declared.Frame.{Frame}
+use Rattle.layout.specs.declared.Frame.{Frame}
 use Rattle.decoder.specs.declared.Instr.{Instr}
 use Rattle.flow.specs.declared.Flow.{Flow}
 use Rattle.flow.specs.Opcodes.{Opcodes}

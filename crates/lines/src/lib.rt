@@ -11,53 +11,102 @@ ghost use mathlib.Core.Path.{_≡_};
 ghost use mathlib.Core.List.{[]};
 ghost use mathlib.Core.Bool.{cond, false};
 ghost use Rattle.laws.specs.Ascii.{ascii};
-ghost use Prim.Native.Nat.{_-_, min};
-ghost use Rattle.text.specs.Put.{Put, place};
+ghost use Prim.Native.Nat.{min};
+ghost use Rattle.text.specs.Put.{Put};
 ghost use Rattle.lines.specs.mirror.Room.{entriesOf, targetRoom, lineRoom};
-ghost use Rattle.lines.specs.Line.{before, operandsBy, placeText, targetText, entryText, shownAfter, entriesFrom, tableText, lineBy};
-ghost use Rattle.lines.specs.mirror.View.{namesOf, elemsOf, viewOf};
+ghost use Rattle.flow.specs.Opcodes.{opcodesOf};
+ghost use Rattle.targets.specs.Targets.{found};
+ghost use Rattle.targets.specs.mirror.Search.{PoolBlocked};
+ghost use Rattle.lines.specs.Line.{before, targetText, entryText, shownAfter, entriesFrom, tableText};
+ghost use Rattle.lines.specs.mirror.View.{namesOf, elemsOf};
+ghost use Rattle.lines.specs.mirror.Parts.{placeBy, instrBy, goesBy};
 
-// A line, from the start of the buffer it is lent: offset, bytes, name, operands, target and entries.
-pub fn put_line(
+// The first part of a line, from the start of the buffer that is lent: offset, bytes, name and operands. `bytes` are those of the instruction.
+// Its operands are taken out of it before anything is put, so that they are copied once.
+pub fn put_instr(
     out: &mut [u8],
-    code: &[u8],
+    bytes: &[u8],
     opcodes: &[u8],
     types: &[u8],
     runtime: &[u8],
     intrinsic: &[u8],
+    f: Function,
+    instr: Instr,
+) -> usize
+    ensures { λ r. ⌜ Put (now (out .entry)) 0 (instrBy (now (bytes .entry)) (opcodesOf (now (opcodes .entry)))
+        (namesOf (now (types .entry)) (now (runtime .entry)) (now (intrinsic .entry))) (f .frame) (f .params) instr) (now (out .exit)) r ⌝ }
+{
+    let frame = f.frame;
+    let operands = instr.operands;
+    let n = text::min(instr.count, 8);
+    let p = put_place(out, bytes, instr.offset);
+    let mut p = bytecode::instr_name(out, p, opcodes, instr.opcode, instr.scale);
+    let mut k: usize = 0;
+    while k < n {
+        let place = operands[k];
+        let op = place.operand;
+        p = put_before(out, p, k);
+        p = bytecode::render_operand(out, p, types, runtime, intrinsic, frame, f.params, op);
+        k += 1;
+    }
+    p
+}
+
+// The second part of a line: where the instruction goes, and the line's end. Most instructions go on or end a path, which is told by nothing.
+pub fn put_goes(
+    out: &mut [u8],
+    at: usize,
     slots: &[u8],
     payload: &[u8],
+    blocks: &[u32],
     f: Function,
     flow: Flow,
     instr: Instr,
 ) -> usize
-    ensures { λ r. ⌜ Put (now (out .entry)) 0
-        (lineBy (viewOf (now (code .entry)) (now (opcodes .entry)) (now (types .entry)) (now (runtime .entry)) (now (intrinsic .entry))
-        (now (slots .entry)) (now (payload .entry)) f) flow instr) (now (out .exit)) r ⌝ }
+    ensures { λ r. ⌜ (PoolBlocked (now (slots .entry)) (f .ts) (f .pool) (now (blocks .entry))
+        → Put (now (out .entry)) at
+        (goesBy (elemsOf (now (slots .entry)) (now (payload .entry)) f) (found (f .pool)) flow instr) (now (out .exit)) r) ⌝ }
+{
+    let kind = flow.kind;
+    match kind {
+        Kind::On => text::put_byte(out, at, b'\n'),
+        Kind::Ends => text::put_byte(out, at, b'\n'),
+        _ => put_targets(out, at, slots, payload, blocks, f, flow, instr),
+    }
+}
+
+// The target, the entries and the line's end.
+fn put_targets(
+    out: &mut [u8],
+    at: usize,
+    slots: &[u8],
+    payload: &[u8],
+    blocks: &[u32],
+    f: Function,
+    flow: Flow,
+    instr: Instr,
+) -> usize
+    ensures { λ r. ⌜ (PoolBlocked (now (slots .entry)) (f .ts) (f .pool) (now (blocks .entry))
+        → Put (now (out .entry)) at
+        (goesBy (elemsOf (now (slots .entry)) (now (payload .entry)) f) (found (f .pool)) flow instr) (now (out .exit)) r) ⌝ }
 {
     let pool = f.pool;
-    let p = put_place(out, code, instr);
-    let p = bytecode::instr_name(out, p, opcodes, instr.opcode, instr.scale);
-    let p = put_operands(out, p, types, runtime, intrinsic, f, instr);
-    let target = targets::jump_target_unchecked(slots, payload, f.ts, pool, flow, instr);
-    let p = put_target(out, p, target);
+    let target = targets::jump_target_in(slots, payload, blocks, f.ts, pool, flow, instr);
+    let p = put_target(out, at, target);
     let table = targets::jump_table_unchecked(pool, flow, instr);
-    let at = targets::here(instr);
-    let p = put_table(out, p, slots, payload, f, at, table);
+    let here = targets::here(instr);
+    let p = put_table(out, p, slots, payload, blocks, f, here, table);
     text::put_byte(out, p, b'\n')
 }
 
-// A length that no line of this flow, instruction and table is longer than.
-pub fn line_room(flow: Flow, instr: Instr, table: Table) -> usize
-    ensures { λ r. ⌜ r ≡ place (lineRoom flow instr table) ⌝ }
+// A length that no line of an instruction of this flow, operand count, size and table is longer than.
+pub fn line_room(flow: Flow, count: u8, size: u8, table: Table) -> usize
+    ensures { λ r. ⌜ r ≡ lineRoom flow (min count 8) size table ⌝ }
 {
     let kind = flow.kind;
-    let count = text::min(instr.count, 8);
-    let size = size_of(instr);
-    let p = 110 + target_room(kind) as usize + 72 * count + 46 * entries_of(table) as usize;
-    let p = text::saturating_add(p, size);
-    let p = text::saturating_add(p, size);
-    text::saturating_add(p, size)
+    let n = text::min(count as usize, 8);
+    let p = 110 + target_room(kind) as usize + 72 * n + 46 * entries_of(table) as usize;
+    p + 3 * size as usize
 }
 
 // The room for a target.
@@ -86,51 +135,14 @@ fn entries_of(table: Table) -> u16
 }
 
 // The offset and the bytes of an instruction.
-fn put_place(out: &mut [u8], code: &[u8], instr: Instr) -> usize
-    ensures { λ r. ⌜ Put (now (out .entry)) 0 (placeText (now (code .entry)) instr) (now (out .exit)) r ⌝ }
+fn put_place(out: &mut [u8], bytes: &[u8], start: usize) -> usize
+    ensures { λ r. ⌜ Put (now (out .entry)) 0 (placeBy (now (bytes .entry)) start) (now (out .exit)) r ⌝ }
 {
-    let start = instr.offset;
-    let bytes = serializer::lent(code, start, size_of(instr));
     let p = text::put_bytes(out, 0, b"           @ ");
     let p = text::put_decimal_padded(out, p, start as u64, 4);
     let p = text::put_bytes(out, p, b" : ");
     let p = text::put_hex_padded(out, p, bytes, 18);
     text::put_byte(out, p, b' ')
-}
-
-// How many bytes an instruction takes.
-fn size_of(instr: Instr) -> usize
-    ensures { λ r. ⌜ r ≡ instr .end - instr .offset ⌝ }
-{
-    let start = instr.offset;
-    let end = instr.end;
-    if start < end { end - start } else { 0 }
-}
-
-fn put_operands(
-    out: &mut [u8],
-    at: usize,
-    types: &[u8],
-    runtime: &[u8],
-    intrinsic: &[u8],
-    f: Function,
-    instr: Instr,
-) -> usize
-    ensures { λ r. ⌜ Put (now (out .entry)) at
-        (operandsBy (namesOf (now (types .entry)) (now (runtime .entry)) (now (intrinsic .entry))) (f .frame) (f .params) instr 0 (min (instr .count) 8))
-        (now (out .exit)) r ⌝ }
-{
-    let frame = f.frame;
-    let n = text::min(instr.count, 8);
-    let mut p = text::saturating_add(at, 0);
-    let mut k: usize = 0;
-    while k < n {
-        let op = targets::operand_of(instr, k as u8);
-        p = put_before(out, p, k);
-        p = bytecode::render_operand(out, p, types, runtime, intrinsic, frame, f.params, op);
-        k += 1;
-    }
-    p
 }
 
 // What stands in front of operand k.
@@ -162,18 +174,20 @@ fn put_table(
     at: usize,
     slots: &[u8],
     payload: &[u8],
+    blocks: &[u32],
     f: Function,
     here: u64,
     table: Table,
 ) -> usize
-    ensures { λ r. ⌜ Put (now (out .entry)) at (tableText (elemsOf (now (slots .entry)) (now (payload .entry)) f) here table) (now (out .exit)) r ⌝ }
+    ensures { λ r. ⌜ (PoolBlocked (now (slots .entry)) (f .ts) (f .pool) (now (blocks .entry))
+        → Put (now (out .entry)) at (tableText (elemsOf (now (slots .entry)) (now (payload .entry)) f) here table) (now (out .exit)) r) ⌝ }
 {
     match table {
         Table::Nothing => text::saturating_add(at, 0),
         Table::Refused => text::saturating_add(at, 0),
         Table::At(e) => {
             let p = text::put_bytes(out, at, b" {");
-            let p = put_entries(out, p, slots, payload, f, here, e);
+            let p = put_entries(out, p, slots, payload, blocks, f, here, e);
             text::put_bytes(out, p, b" }")
         }
     }
@@ -184,12 +198,14 @@ fn put_entries(
     at: usize,
     slots: &[u8],
     payload: &[u8],
+    blocks: &[u32],
     f: Function,
     here: u64,
     e: Entries,
 ) -> usize
-    ensures { λ r. ⌜ Put (now (out .entry)) at
-        (entriesFrom (elemsOf (now (slots .entry)) (now (payload .entry)) f) here e false 0 (e .count)) (now (out .exit)) r ⌝ }
+    ensures { λ r. ⌜ (PoolBlocked (now (slots .entry)) (f .ts) (f .pool) (now (blocks .entry))
+        → Put (now (out .entry)) at
+        (entriesFrom (elemsOf (now (slots .entry)) (now (payload .entry)) f) here e false 0 (e .count)) (now (out .exit)) r) ⌝ }
 {
     let pool = f.pool;
     let n = e.count;
@@ -197,7 +213,7 @@ fn put_entries(
     let mut shown = false;
     let mut k: u16 = 0;
     while k < n {
-        let entry = targets::jump_entry_unchecked(slots, payload, f.ts, pool, here, e, k);
+        let entry = targets::jump_entry_in(slots, payload, blocks, f.ts, pool, here, e, k);
         p = put_entry(out, p, shown, entry);
         shown = shown_after(shown, entry);
         k += 1;

@@ -20,7 +20,7 @@ use Rattle.text.proofs.Texts.{digits-few}
 use Rattle.store.specs.Records.{objectOf}
 use Rattle.store.specs.Check.{checkStore, checkCodeObject}
 use Rattle.serializer.specs.declared.Elem.{Elem}
-use Rattle.tables.specs.Layout.{layoutOf}
+use Rattle.layout.specs.Layout.{layoutOf}
 use Rattle.tables.specs.Check.{checkTable}
 use Rattle.header.specs.declared.HeaderAnswer.{HeaderAnswer}
 use Rattle.header.specs.Header.{headerOf}

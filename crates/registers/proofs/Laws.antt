@@ -19,7 +19,7 @@ use Rattle.operand.specs.declared.Operand.{Operand}
 use Rattle.operand.specs.declared.Operand.the-variants.{Nothing, Reg, RegList, Imm, Idx, Flag8, Flag16, RuntimeId, IntrinsicId, Raw}
 use Rattle.decoder.specs.declared.OperandRecord.{OperandRecord}
 use Rattle.decoder.specs.declared.Instr.{Instr}
-use Rattle.decoder.specs.Head.{blank}
+use Rattle.decoder.specs.Decode.{blank}
 use Rattle.registers.specs.declared.Largest.{Largest}
 use Rattle.registers.specs.Registers.{larger, withRegister, listEnd, withOperand, withOperands, withInstr, withInstrs}
 use Rattle.operand.proofs.Operand as operand-type

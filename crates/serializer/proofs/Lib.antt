@@ -2,6 +2,7 @@ pub mod Parts
 pub mod Bound
 pub mod Cases
 pub mod Down
+pub mod Windows
 pub mod Point
 pub mod Searched
 pub mod Checked

@@ -5,10 +5,11 @@ use crate::Smi;
 use crate::Span;
 use store::SlotValue;
 ghost use mathlib.Core.Path.{_≡_};
-ghost use Prim.Native.Nat.{_+_, _*_, _/_, _<_, min};
+ghost use Prim.Native.Nat.{ℕ, _+_, _*_, _/_, _<_, _≤_, min};
 ghost use Rattle.serializer.specs.Down.{stops, walkDown};
+ghost use Rattle.serializer.specs.mirror.Blocks.{Blocked};
 ghost use Rattle.serializer.specs.mirror.Search.{elemSearched};
-ghost use Rattle.serializer.specs.Element.{elemBytes, elemRef, elemRaw, elemInner, elemRepeat, elemValue, elemLook};
+ghost use Rattle.serializer.specs.Element.{elemBytes, elemRef, elemRaw, elemInner, elemRepeat, elemValue, elemLook, elemOr};
 
 // array_elem of an object's slots.
 pub fn array_elem_unchecked(
@@ -21,6 +22,23 @@ pub fn array_elem_unchecked(
 ) -> Elem
     ensures { λ r. ⌜ r ≡ elemSearched (now (slots .entry)) (now (payload .entry)) first count ts element ⌝ }
 {
+    let none = [0u32; 1];
+    array_elem_in(slots, payload, &none, first, count, ts, element)
+}
+
+// The same by a summary of the slots, as `elem_blocks` makes it: for many elements of one array.
+pub fn array_elem_in(
+    slots: &[u8],
+    payload: &[u8],
+    blocks: &[u32],
+    first: u32,
+    count: u32,
+    ts: u8,
+    element: u64,
+) -> Elem
+    ensures { λ r. ⌜ (Blocked (now (slots .entry)) first count ts (now (blocks .entry))
+        → r ≡ elemSearched (now (slots .entry)) (now (payload .entry)) first count ts element) ⌝ }
+{
     if ts == 0 {
         return Elem::Nothing;
     }
@@ -29,29 +47,67 @@ pub fn array_elem_unchecked(
     }
     let want = element + 2;
     let point = crate::slots::partition_point(slots, first, count, want + 1);
-    elem_down(slots, payload, first, point, ts, want)
+    elem_down(slots, payload, blocks, first, point, ts, want)
 }
 
-// The walk from slot start downward.
-fn elem_down(slots: &[u8], payload: &[u8], first: u32, start: u32, ts: u8, want: u64) -> Elem
-    requires { ⌜ want < 8589934592 ⌝ }
-    ensures { λ r. ⌜ r ≡ walkDown (elemLook (now (payload .entry)) ts want) Elem.Nothing (now (slots .entry)) first want start ⌝ }
+// The walk from slot start downward, block by block.
+fn elem_down(
+    slots: &[u8],
+    payload: &[u8],
+    blocks: &[u32],
+    first: u32,
+    start: u32,
+    ts: u8,
+    want: u64,
+) -> Elem
+    requires { ⌜ (0 < ts) × (want < 8589934592) ⌝ }
+    ensures { λ r. ⌜ ((count : ℕ) → start ≤ count → Blocked (now (slots .entry)) first count ts (now (blocks .entry))
+        → r ≡ walkDown (elemLook (now (payload .entry)) ts want) Elem.Nothing (now (slots .entry)) first want start) ⌝ }
 {
     let mut k = start;
     while 0 < k {
+        let top = k;
+        let b = (k - 1) / 512;
+        k = b * 512;
+        if !crate::blocks::passes(blocks, b, want) {
+            match block_down(slots, payload, first, k, top, ts, want) {
+                ElemLook::Found(e) => return e,
+                ElemLook::Below => {}
+            }
+        }
+    }
+    Elem::Nothing
+}
+
+// The walk from slot hi downward to slot lo: what it finds, nothing where it stops, or that all these slots are passed over.
+fn block_down(
+    slots: &[u8],
+    payload: &[u8],
+    first: u32,
+    lo: u32,
+    hi: u32,
+    ts: u8,
+    want: u64,
+) -> ElemLook
+    requires { ⌜ (lo ≤ hi) × (want < 8589934592) ⌝ }
+    ensures { λ r. ⌜ walkDown (elemLook (now (payload .entry)) ts want) Elem.Nothing (now (slots .entry)) first want hi
+        ≡ elemOr r (walkDown (elemLook (now (payload .entry)) ts want) Elem.Nothing (now (slots .entry)) first want lo) ⌝ }
+{
+    let mut k = hi;
+    while lo < k {
         k -= 1;
         let slot = store::slot_of(slots, first as usize + k as usize);
         let index = slot.index;
         let value = slot.value;
         match elem_in(value, payload, index, ts, want) {
-            ElemLook::Found(e) => return e,
+            ElemLook::Found(e) => return ElemLook::Found(e),
             ElemLook::Below => {}
         }
         if crate::slots::stops(index, want) {
-            return Elem::Nothing;
+            return ElemLook::Found(Elem::Nothing);
         }
     }
-    Elem::Nothing
+    ElemLook::Below
 }
 
 // What a slot's value says of the element.

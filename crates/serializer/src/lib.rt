@@ -1,6 +1,7 @@
 // Readers of the store (serializer.rs): small integers, slots, fields in raw runs, elements and lengths of arrays. `ts` is the
 // tagged size; 0, which no layout has, finds nothing. The calls on a lent store check it first. What they use takes an object's
 // slots, `count` from number `first` on, checks nothing, and searches as the Rust does, which on a checked store finds the same.
+mod blocks;
 mod elements;
 mod integers;
 mod lengths;
@@ -8,6 +9,8 @@ mod offsets;
 mod runs;
 mod slots;
 
+pub use blocks::elem_blocks;
+pub use elements::array_elem_in;
 pub use elements::array_elem_unchecked;
 pub use integers::decode_smi_bytes;
 pub use integers::smi_at;
@@ -309,6 +312,12 @@ pub fn lent<'a>(s: &'a [u8], at: usize, n: usize) -> &'a [u8]
 enum ElemLook {
     Found(Elem),
     Below,
+}
+
+// The indices, from `from` on and below `to`, for which a walk downward passes a block of slots.
+struct Window {
+    from: u32,
+    to: u32,
 }
 
 // Offsets.

@@ -1,52 +1,63 @@
--- The steps of an instruction by number, as the functions compute them. Assumes nothing.
-use Prim.Native.Nat.{ℕ, zero, suc, _+_, _<_, _≤_}
-use mathlib.Core.Path.{_≡_, refl, ap, _∙_}
-use mathlib.Core.List.{List, [], _∷_}
-use mathlib.Core.Option.{none, some}
+-- What is kept of an instruction, by its kind. Assumes nothing.
+use Prim.Native.Nat.{ℕ, _≤_}
+use mathlib.Core.Path.{_≡_, refl, sym, ap}
+use mathlib.Core.Bool.{Bool, true, false, cond, _&&_}
 use native.Mathlib.Omega.{arith}
-use lib.Dec.{eqb·suc-zero, eqb·suc-suc}
-use lib.ListN.{getElem?}
-use Rattle.graph.specs.Graph.{Step}
-use Rattle.graph.specs.Graph.Step.{To}
+use lib.Dec.{eqb}
+use Rattle.decoder.specs.declared.Instr.{Instr}
+use Rattle.flow.specs.declared.Flow.{Flow}
+use Rattle.flow.specs.declared.Kind.{Kind}
 use Rattle.serializer.specs.declared.Elem.{Elem}
-use Rattle.targets.specs.Targets.{entryAt}
-use Rattle.targets.specs.declared.Entries.{Entries}
-use Rattle.steps.specs.declared.Next.{Next}
-use Rattle.steps.specs.mirror.Ways.{stepAs, lastStep, entryStep, entryWays}
+use Rattle.flow.specs.declared.Kind.the-variants.{On, Ends, Jumps, Branches, JumpsBack, Switch}
+use Rattle.targets.specs.Targets.{jumpTarget, isSwitch, jumpTable}
+use Rattle.targets.specs.declared.Target.{Target}
+use Rattle.targets.specs.declared.Table.{Table}
+use Rattle.targets.specs.declared.Table.the-variants as table
+use Rattle.steps.specs.mirror.Keeping.{prefixOf, keptTable, keptBy, keptOf}
 
--- the step to e alone, and behind one other
-pub last-first : (k e : ℕ) {r : Next} → r ≡ lastStep k 0 e → stepAs r ≡ getElem? (To e ∷ []) k
-last-first zero e h = ap stepAs h
-last-first (suc k) e h = rw (eqb·suc-zero k) at (ap stepAs h)
+pub kept-by : (el : ℕ → Elem) (pooled : Bool) (flow : Flow) (i : Instr) (size : ℕ) (k : Kind) → flow .kind ≡ k
+    → keptBy k (jumpTarget el flow i) (jumpTable pooled flow i) (prefixOf (i .scale)) size ≡ keptOf el pooled flow i size
+unfolding keptOf
+kept-by el pooled flow i size k e = ap (λ (x : Kind). keptBy x (jumpTarget el flow i) (jumpTable pooled flow i) (prefixOf (i .scale)) size) (sym e)
 
-pub last-second : (s : Step) (k e : ℕ) {r : Next} → (k ≡ 0 → ⊥) → r ≡ lastStep k 1 e → stepAs r ≡ getElem? (s ∷ To e ∷ []) k
-last-second s zero e n h = absurd (n refl)
-last-second s (suc k) e n h = last-first k e (rw (eqb·suc-suc k 0) at h)
+-- number 16 refuses a table just where that is kept
+abbrev pub isRefused : Table → Bool
+isRefused table.Nothing = false
+isRefused (table.At e) = false
+isRefused table.Refused = true
 
--- past a single step there is none
-pub past-one : (s : Step) (k : ℕ) → (k ≡ 0 → ⊥) → none ≡ getElem? (s ∷ []) k
-past-one s zero n = absurd (n refl)
-past-one s (suc k) n = refl
+pub refused-is : (el : ℕ → Elem) (pooled : Bool) (flow : Flow) (i : Instr) (size : ℕ) → keptOf el pooled flow i size .refused ≡ isRefused (jumpTable pooled flow i)
+unfolding keptOf jumpTable
+refused-is el pooled flow i size = go (flow .kind) (eqb (i .scale) 1) (jumpTarget el flow i) _ (prefixOf (i .scale))
+  where
+    of-table : (t : Table) (prefix : ℕ) → keptTable t prefix size .refused ≡ isRefused t
+    of-table table.Nothing prefix = refl
+    of-table (table.At e) prefix = refl
+    of-table table.Refused prefix = refl
 
-pub first-one : (s : Step) (l : List Step) (k : ℕ) → k ≡ 0 → some s ≡ getElem? (s ∷ l) k
-first-one s l zero h = refl
-first-one s l (suc k) h = absurd (omega arith)
+    -- only a switch has a table
+    go : (k : Kind) (b : Bool) (T : Target) (t : Table) (prefix : ℕ) → let u = cond (isSwitch k && b) t table.Nothing in keptBy k T u prefix size .refused ≡ isRefused u
+    go On b T t prefix = refl
+    go Ends b T t prefix = refl
+    go Jumps b T t prefix = refl
+    go Branches b T t prefix = refl
+    go JumpsBack b T t prefix = refl
+    go Switch b T t prefix = of-table (cond b t table.Nothing) prefix
 
-step-on : (k n e : ℕ) → lastStep (suc k) (suc n) e ≡ lastStep k n e
-step-on k n e = rw (eqb·suc-suc k n)
+-- a head is at least the size
+pub head-most : (el : ℕ → Elem) (pooled : Bool) (flow : Flow) (i : Instr) (size : ℕ) → size ≤ keptOf el pooled flow i size .head
+unfolding keptOf
+head-most el pooled flow i size = go (flow .kind) (jumpTarget el flow i) (jumpTable pooled flow i) (prefixOf (i .scale))
+  where
+    of-table : (t : Table) (prefix : ℕ) → size ≤ keptTable t prefix size .head
+    of-table table.Nothing prefix = omega arith
+    of-table (table.At e) prefix = omega arith
+    of-table table.Refused prefix = omega arith
 
-module _ (el : ℕ → Elem) (at : ℕ) (s : Entries) (e : ℕ) where
-  entry-at : (j n k : ℕ) → k < n → some (entryStep (entryAt el at s (j + k)) e) ≡ getElem? (entryWays el at s e j n) k
-  unfolding entryWays
-  entry-at j zero k h = absurd (omega arith)
-  entry-at j (suc n) zero h = ap (λ (i : ℕ). some (entryStep (entryAt el at s i) e)) (omega arith)
-  entry-at j (suc n) (suc k) h = let z : j + suc k ≡ j + 1 + k = omega arith in ap (λ (i : ℕ). some (entryStep (entryAt el at s i) e)) z ∙ entry-at (j + 1) n k (omega arith)
-
-  pub entry-zero : (n k : ℕ) → k < n → some (entryStep (entryAt el at s k) e) ≡ getElem? (entryWays el at s e 0 n) k
-  entry-zero n k h = let z : k ≡ 0 + k = omega arith in ap (λ (i : ℕ). some (entryStep (entryAt el at s i) e)) z ∙ entry-at 0 n k h
-
-  pub entry-last : (j n k : ℕ) → n ≤ k → stepAs (lastStep k n e) ≡ getElem? (entryWays el at s e j n) k
-  unfolding entryWays
-  entry-last j zero k h = last-first k e refl
-  entry-last j (suc n) zero h = absurd (omega arith)
-  entry-last j (suc n) (suc k) h = ap stepAs (step-on k n e) ∙ entry-last (j + 1) n k (omega arith)
+    go : (k : Kind) (T : Target) (t : Table) (prefix : ℕ) → size ≤ keptBy k T t prefix size .head
+    go On T t prefix = omega arith
+    go Ends T t prefix = omega arith
+    go Jumps T t prefix = omega arith
+    go Branches T t prefix = omega arith
+    go JumpsBack T t prefix = omega arith
+    go Switch T t prefix = of-table t prefix

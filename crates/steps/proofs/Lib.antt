@@ -1,2 +1,4 @@
 pub mod Laws
 pub mod Same
+pub mod Listed
+pub mod Keeps

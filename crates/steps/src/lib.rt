@@ -1,150 +1,157 @@
-// The steps from an instruction: where it goes, and each of its steps by number.
+// What the walk check keeps of an instruction, so that its search need not decode: where it goes, in two numbers (search/specs/mirror/Kept.antt).
 
 use decoder::Instr;
 use flow::Flow;
 use flow::Kind;
-use targets::Entries;
-use targets::Entry;
 use targets::Pool;
 use targets::Table;
 use targets::Target;
 ghost use mathlib.Core.Path.{_≡_};
-ghost use mathlib.Core.List.{[], _∷_};
-ghost use lib.ListN.{getElem?};
-ghost use mathlib.Core.Option.{some};
-ghost use Rattle.targets.specs.Targets.{found, entryAt};
-ghost use Rattle.targets.specs.mirror.Search.{poolSearched};
+ghost use Rattle.targets.specs.Targets.{found, jumpTarget};
+ghost use Rattle.targets.specs.mirror.Search.{poolSearched, PoolBlocked};
+ghost use Rattle.search.specs.mirror.Kept.{wordOf};
 ghost use Rattle.steps.specs.Steps.{toTarget};
-ghost use Rattle.steps.specs.mirror.Ways.{stepAs, wayOf, waySteps, tableWays, entryStep, lastStep};
+ghost use Rattle.steps.specs.mirror.Keeping.{prefixOf, keptEnd, keptOn, keptTo, keptTable, keptOf};
 
-// A step: to an offset, without a target, or none with this number.
-pub enum Next {
-    To(u64),
-    NoTarget,
-    Done,
+// The head and the word of an instruction, and whether number 16 refuses its table.
+pub struct Kept {
+    pub head: u32,
+    pub word: u32,
+    pub refused: bool,
 }
 
-// Where an instruction goes: by its kind to the target, to the entries of the table or to the end.
-pub struct Way {
-    pub kind: Kind,
-    pub target: Target,
-    pub table: Table,
-    pub here: u64,
-    pub end: usize,
-}
-
-// Where an instruction goes.
-pub fn way_of(slots: &[u8], payload: &[u8], ts: u8, pool: Pool, flow: Flow, instr: Instr) -> Way
-    ensures { λ r. ⌜ r ≡ wayOf (poolSearched (now (slots .entry)) (now (payload .entry)) ts pool) (found pool) flow instr ⌝ }
+// What is kept of an instruction of so many bytes, by a summary of the pool's slots.
+pub fn kept_of(
+    slots: &[u8],
+    payload: &[u8],
+    blocks: &[u32],
+    ts: u8,
+    pool: Pool,
+    flow: Flow,
+    instr: Instr,
+    size: u8,
+) -> Kept
+    ensures { λ r. ⌜ (PoolBlocked (now (slots .entry)) ts pool (now (blocks .entry))
+        → r ≡ keptOf (poolSearched (now (slots .entry)) (now (payload .entry)) ts pool) (found pool) flow instr size) ⌝ }
 {
     let kind = flow.kind;
-    let target = targets::jump_target_unchecked(slots, payload, ts, pool, flow, instr);
-    let table = targets::jump_table_unchecked(pool, flow, instr);
-    let here = targets::here(instr);
-    Way {
-        kind,
-        target,
-        table,
-        here,
-        end: instr.end,
-    }
-}
-
-// Step k, from 0 on.
-pub fn step_of(slots: &[u8], payload: &[u8], ts: u8, pool: Pool, way: Way, k: usize) -> Next
-    ensures { λ r. ⌜ stepAs r ≡ getElem? (waySteps (poolSearched (now (slots .entry)) (now (payload .entry)) ts pool) way) k ⌝ }
-{
-    let kind = way.kind;
-    let target = way.target;
-    let table = way.table;
     match kind {
-        Kind::On => last_step(k, 0, way.end),
-        Kind::Ends => Next::Done,
-        Kind::Jumps => jump_step(k, target),
-        Kind::Branches => {
-            if k == 0 {
-                target_step(target)
-            } else {
-                last_step(k, 1, way.end)
-            }
-        }
-        Kind::JumpsBack => jump_step(k, target),
-        Kind::Switch => switch_step(slots, payload, ts, pool, table, way.here, way.end, k),
+        Kind::On => kept_on(size),
+        Kind::Ends => kept_end(size),
+        Kind::Jumps => kept_jump(
+            slots,
+            payload,
+            blocks,
+            ts,
+            pool,
+            flow,
+            instr,
+            size as u32 + 512,
+        ),
+        Kind::Branches => kept_jump(
+            slots,
+            payload,
+            blocks,
+            ts,
+            pool,
+            flow,
+            instr,
+            size as u32 + 768,
+        ),
+        Kind::JumpsBack => kept_jump(
+            slots,
+            payload,
+            blocks,
+            ts,
+            pool,
+            flow,
+            instr,
+            size as u32 + 512,
+        ),
+        Kind::Switch => kept_table(
+            targets::jump_table_unchecked(pool, flow, instr),
+            prefix_of(instr.scale),
+            size,
+        ),
     }
 }
 
-// The step to e, where n others come before it.
-fn last_step(k: usize, n: usize, e: usize) -> Next
-    ensures { λ r. ⌜ r ≡ lastStep k n e ⌝ }
+// Of one that ends the walk.
+pub fn kept_end(size: u8) -> Kept
+    ensures { λ r. ⌜ r ≡ keptEnd size ⌝ }
 {
-    if k == n {
-        Next::To(e as u64)
-    } else {
-        Next::Done
+    Kept {
+        head: size as u32,
+        word: 0,
+        refused: false,
     }
 }
 
-fn jump_step(k: usize, target: Target) -> Next
-    ensures { λ r. ⌜ stepAs r ≡ getElem? (toTarget target ∷ []) k ⌝ }
+// Of one that goes on.
+pub fn kept_on(size: u8) -> Kept
+    ensures { λ r. ⌜ r ≡ keptOn size ⌝ }
 {
-    if k == 0 {
-        target_step(target)
-    } else {
-        Next::Done
+    Kept {
+        head: size as u32 + 256,
+        word: 0,
+        refused: false,
     }
 }
 
-fn target_step(target: Target) -> Next
-    ensures { λ r. ⌜ stepAs r ≡ some (toTarget target) ⌝ }
+// Of a jump: its target under a head.
+fn kept_jump(
+    slots: &[u8],
+    payload: &[u8],
+    blocks: &[u32],
+    ts: u8,
+    pool: Pool,
+    flow: Flow,
+    instr: Instr,
+    head: u32,
+) -> Kept
+    ensures { λ r. ⌜ (PoolBlocked (now (slots .entry)) ts pool (now (blocks .entry))
+        → r ≡ keptTo head (jumpTarget (poolSearched (now (slots .entry)) (now (payload .entry)) ts pool) flow instr)) ⌝ }
+{
+    let target = targets::jump_target_in(slots, payload, blocks, ts, pool, flow, instr);
+    Kept {
+        head,
+        word: word_of(target),
+        refused: false,
+    }
+}
+
+// The word of a target: a place too high for one, and no target, are kept as a place where nothing starts.
+fn word_of(target: Target) -> u32
+    ensures { λ r. ⌜ r ≡ wordOf (toTarget target) ⌝ }
 {
     match target {
-        Target::At(t) => Next::To(t),
-        Target::Nothing => Next::NoTarget,
+        Target::At(t) => { if t < 4294967295 { t as u32 } else { 4294967295 } }
+        Target::Nothing => 4294967295,
     }
 }
 
-// The entries, and then e.
-fn switch_step(
-    slots: &[u8],
-    payload: &[u8],
-    ts: u8,
-    pool: Pool,
-    table: Table,
-    here: u64,
-    e: usize,
-    k: usize,
-) -> Next
-    ensures { λ r. ⌜ stepAs r ≡ getElem? (tableWays (poolSearched (now (slots .entry)) (now (payload .entry)) ts pool) here table e) k ⌝ }
+// Of a switch: the number of its first element, and how many there are. Without a table it goes on.
+fn kept_table(table: Table, prefix: u8, size: u8) -> Kept
+    ensures { λ r. ⌜ r ≡ keptTable table prefix size ⌝ }
 {
     match table {
-        Table::Nothing => last_step(k, 0, e),
-        Table::At(entries) => {
-            let n = entries.count as usize;
-            if k < n {
-                entry_step(slots, payload, ts, pool, here, entries, k as u16, e)
-            } else {
-                last_step(k, n, e)
-            }
-        }
-        Table::Refused => last_step(k, 0, e),
+        Table::Nothing => kept_on(size),
+        Table::At(e) => Kept {
+            head: size as u32 + 1280 + 2048 * prefix as u32 + 4096 * e.count as u32,
+            word: e.start,
+            refused: false,
+        },
+        Table::Refused => Kept {
+            head: size as u32 + 256,
+            word: 0,
+            refused: true,
+        },
     }
 }
 
-// The step of entry k: to its target, or to e where it is skipped.
-fn entry_step(
-    slots: &[u8],
-    payload: &[u8],
-    ts: u8,
-    pool: Pool,
-    here: u64,
-    entries: Entries,
-    k: u16,
-    e: usize,
-) -> Next
-    ensures { λ r. ⌜ stepAs r ≡ some (entryStep (entryAt (poolSearched (now (slots .entry)) (now (payload .entry)) ts pool) here entries k) e) ⌝ }
+// How many bytes of prefix an instruction has.
+fn prefix_of(scale: u8) -> u8
+    ensures { λ r. ⌜ r ≡ prefixOf scale ⌝ }
 {
-    match targets::jump_entry_unchecked(slots, payload, ts, pool, here, entries, k) {
-        Entry::Shown { case: _, target } => Next::To(target),
-        Entry::Skipped => Next::To(e as u64),
-    }
+    if 1 < scale { 1 } else { 0 }
 }

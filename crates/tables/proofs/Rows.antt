@@ -1,5 +1,5 @@
 -- A name compared word by word with a field, and names in rows. Assumes nothing.
-use Prim.Native.Nat.{ℕ, zero, suc, _+_, _-_, _*_, _<_, _≤_, min}
+use Prim.Native.Nat.{ℕ, zero, suc, _+_, _-_, _*_, _<_, _≤_}
 use mathlib.Core.Path.{_≡_, refl, sym, ap, _∙_}
 use mathlib.Core.List.{List, [], _∷_, _++_}
 use mathlib.Core.Bool.{Bool, true, false, not, _&&_}
@@ -11,7 +11,7 @@ use lib.ListN.{length, getD, take, drop, length-append, List·getD-eq-default, L
 use lib.Seq.{getD-take, getD-drop, drop-append-seam}
 use Rattle.laws.specs.Scan.{firstFrom}
 use Rattle.laws.proofs.Scan.{first-none, first-is, first-along}
-use Rattle.laws.proofs.Tests.{and-left, and-right, under?}
+use Rattle.laws.proofs.Tests.{and-left, and-right, under?, same?}
 use mathlib.Core.Logic.{⊎-elim}
 use Rattle.words.specs.Le.{leAt}
 use Rattle.words.proofs.Le.{Bytes}
@@ -19,7 +19,7 @@ use Rattle.tables.specs.Names.{differs, isNamed}
 use Rattle.tables.specs.mirror.Rows.{filled, rows}
 
 -- ---- bytes that agree are one number, and only those
-leAt-same : (s t : List ℕ) (a b w : ℕ) → ((k : ℕ) → k < w → getD s (a + k) 0 ≡ getD t (b + k) 0) → leAt s a w ≡ leAt t b w
+pub leAt-same : (s t : List ℕ) (a b w : ℕ) → ((k : ℕ) → k < w → getD s (a + k) 0 ≡ getD t (b + k) 0) → leAt s a w ≡ leAt t b w
 unfolding leAt
 leAt-same s t a b zero h = refl
 leAt-same s t a b (suc w) h = rw (first, leAt-same s t (a + 1) (b + 1) w rest)
@@ -48,34 +48,43 @@ leAt-only s t p q a b (suc w) e (suc k) l =
     let y : b + suc k ≡ b + 1 + k = omega arith in
     rw (x, y) (leAt-only s t p q (a + 1) (b + 1) w (omega (arith, p a, q b)) k (omega arith))
 
--- ---- a field and a name, word by word
-module _ (s : List ℕ) (at w : ℕ) (name : List ℕ) where
-  pub word-differs : (i : ℕ) → i < w → (leAt s (at + i) (min (w - i) 8) ≡ leAt name i (min (w - i) 8) → ⊥) → false ≡ isNamed s at w name
-  unfolding isNamed
-  word-differs i room x = sym (ne-eqb _ _ (λ e. x (leAt-same s name (at + i) i (min (w - i) 8) (same e))))
-    where
-      same : firstFrom (differs s at name) 0 w ≡ w → (k : ℕ) → k < min (w - i) 8 → getD s (at + i + k) 0 ≡ getD name (i + k) 0
-      same e k l =
-          let n : 0 + w ≡ w = omega arith in
-          let p : at + i + k ≡ at + (i + k) = omega arith in
-          rw p (eqb-true _ _ (not-false _ (first-none (differs s at name) 0 w (e ∙ sym n) (i + k) (omega arith) (omega arith))))
+-- ---- a field holds a name: its bytes are the name's
+pub named-byte : (s : List ℕ) (at w : ℕ) (name : List ℕ) → isNamed s at w name ≡ true → (i : ℕ) → i < w → getD s (at + i) 0 ≡ getD name i 0
+unfolding isNamed
+named-byte s at w name h i l = eqb-true _ _ (not-false _ (first-none (differs s at name) 0 w (eqb-true _ _ h ∙ sym (zero-add w)) i (omega arith) (omega arith)))
 
-  pub word-agrees : Bytes s → Bytes name → (i : ℕ) → leAt s (at + i) (min (w - i) 8) ≡ leAt name i (min (w - i) 8)
-      → ((j : ℕ) → j < i → j < w → differs s at name j ≡ false) → (j : ℕ) → j < i + 8 → j < w → differs s at name j ≡ false
-  word-agrees p q i e before j l m = ⊎-elim (λ (low : j < i). before j low m) here (under? j i)
-    where
-      here : i ≤ j → differs s at name j ≡ false
-      here low =
-          let x : at + i + (j - i) ≡ at + j = omega arith in
-          let y : i + (j - i) ≡ j = omega arith in
-          ap not (eq-eqb _ _ (rw (x, y) at (leAt-only s name p q (at + i) i (min (w - i) 8) e (j - i) (omega arith))))
+-- the bytes below i agree
+abbrev pub Agree : List ℕ → List ℕ → ℕ → Type 0
+Agree a b i = (k : ℕ) → k < i → getD a k 0 ≡ getD b k 0
 
-  pub words-agree : (i : ℕ) → w ≤ i → ((j : ℕ) → j < i → j < w → differs s at name j ≡ false) → true ≡ isNamed s at w name
-  unfolding isNamed
-  words-agree i past h = sym (eq-eqb _ _ (first-is (differs s at name) 0 w w (omega arith) (omega arith) (λ j low l. h j (omega arith) l) (λ l. absurd (omega arith))))
+bytes-named : (a b : List ℕ) (n : ℕ) → Agree a b n → isNamed a 0 n b ≡ true
+unfolding isNamed
+bytes-named a b n h = eq-eqb _ _ (first-is (differs a 0 b) 0 n n (omega arith) (omega arith) (λ j low l. rw (zero-add j) (ap not (eq-eqb _ _ (h j l)))) (λ l. absurd (omega arith)))
+
+-- ---- word by word: a word that differs, one that agrees, and the last, which may begin before the end of those that are passed
+module _ (a b : List ℕ) where
+  pub word-differs : (n i m : ℕ) → i + m ≤ n → (leAt a i m ≡ leAt b i m → ⊥) → false ≡ isNamed a 0 n b
+  word-differs n i m room x = go (isNamed a 0 n b) refl
+    where
+      go : (t : Bool) → isNamed a 0 n b ≡ t → false ≡ t
+      go true e = absurd (x (leAt-same a b i i m (λ k l. rw (zero-add (i + k)) at (named-byte a 0 n b e (i + k) (omega arith)))))
+      go false e = refl
+
+  module _ (p : Bytes a) (q : Bytes b) where
+    agree-more : (i at m : ℕ) → Agree a b i → at ≤ i → leAt a at m ≡ leAt b at m → Agree a b (at + m)
+    agree-more i at m h low e k l = ⊎-elim (λ (z : k < i). h k z) (λ (z : i ≤ k). let x : at + (k - at) ≡ k = omega arith in rw x at (leAt-only a b p q at at m e (k - at) (omega arith))) (under? k i)
+
+    pub word-agrees : (i : ℕ) → Agree a b i → leAt a i 8 ≡ leAt b i 8 → Agree a b (i + 8)
+    word-agrees i h e = agree-more i i 8 h (omega arith) e
+
+    pub word-last : (n i at m : ℕ) → Agree a b i → at ≤ i → at + m ≡ n → eqb (leAt a at m) (leAt b at m) ≡ isNamed a 0 n b
+    word-last n i at m h low end = ⊎-elim
+        (λ (e : leAt a at m ≡ leAt b at m). eq-eqb _ _ e ∙ sym (bytes-named a b n (rw end at (agree-more i at m h low e))))
+        (λ (x : leAt a at m ≡ leAt b at m → ⊥). ne-eqb _ _ x ∙ word-differs n at m (omega arith) x)
+        (same? (leAt a at m) (leAt b at m))
 
 -- a name is held where its bytes differ from the field's nowhere else than another's do from another field's
-named-same : (s t : List ℕ) (at bt w : ℕ) (a b : List ℕ) → ((i : ℕ) → i < w → differs s at a i ≡ differs t bt b i) → isNamed s at w a ≡ isNamed t bt w b
+pub named-same : (s t : List ℕ) (at bt w : ℕ) (a b : List ℕ) → ((i : ℕ) → i < w → differs s at a i ≡ differs t bt b i) → isNamed s at w a ≡ isNamed t bt w b
 unfolding isNamed
 named-same s t at bt w a b same = ap (λ (k : ℕ). eqb k w) first
   where

@@ -7,12 +7,13 @@ use crate::TYPE_NAME;
 use crate::TYPE_SIZE;
 use refusal::Check;
 ghost use mathlib.Core.Path.{_≡_};
-ghost use Prim.Native.Nat.{_+_, _-_, _*_, _/_, _<_, _≤_, min};
-ghost use mathlib.Core.Bool.{not};
+ghost use Prim.Native.Nat.{_+_, _-_, _*_, _/_, _<_, _≤_, max};
+ghost use mathlib.Core.Bool.{true, cond};
+ghost use mathlib.Core.List.{[]};
 ghost use lib.ListN.{length};
 ghost use Rattle.laws.specs.Scan.{firstFrom};
-ghost use Rattle.words.specs.Le.{leAt};
-ghost use Rattle.tables.specs.Names.{isName, notName, notZero, nameOk, isZero, nameAt, isNamed};
+ghost use Rattle.tables.specs.Names.{isName, notName, nameOk, isZero, nameAt, isNamed};
+ghost use Rattle.tables.specs.mirror.Fields.{isFine, Fine};
 ghost use Rattle.text.specs.Put.{Put};
 ghost use Rattle.tables.specs.Texts.{opName, typeName, runtimeName, intrinsicName};
 ghost use Rattle.tables.specs.Check.{checkNames, checkAllNames};
@@ -24,7 +25,12 @@ pub fn name_is(s: &[u8], at: usize, w: u8, name: &[u8]) -> bool
     if s.len() <= at {
         return field_is(b"", 0, w, name);
     }
-    field_is(s, at, w, name)
+    let n = w as usize;
+    if s.len() - at < n {
+        return field_is(s, at, w, name);
+    }
+    let to = at + n;
+    same_bytes(&s[at..to], name)
 }
 
 // The name in the field of w bytes at place at.
@@ -114,27 +120,122 @@ fn name_ok(s: &[u8], at: usize, w: u8) -> bool
     requires { ⌜ at + w ≤ length (now s) ⌝ }
     ensures { λ r. ⌜ r ≡ nameOk (now (s .entry)) at w ⌝ }
 {
+    if is_plain(s, at, w) {
+        return true;
+    }
+    name_then_zeros(s, at, w)
+}
+
+// The same, byte by byte.
+fn name_then_zeros(s: &[u8], at: usize, w: u8) -> bool
+    requires { ⌜ at + w ≤ length (now s) ⌝ }
+    ensures { λ r. ⌜ r ≡ nameOk (now (s .entry)) at w ⌝ }
+{
     let to = at + w as usize;
     let e = name_end(s, at, to);
     if e <= at {
         return false;
     }
-    zeros_end(s, e, to) == to
+    all_zero(&s[e..to])
 }
 
-// A letter, a digit or an underscore; small letters, which are most, by the first test.
+// A field that is told to have a good name by many bytes at a time. Few names that are good are not told so.
+fn is_plain(s: &[u8], at: usize, w: u8) -> bool
+    requires { ⌜ at + w ≤ length (now s) ⌝ }
+    ensures { λ r. ⌜ (r ≡ true → nameOk (now (s .entry)) at w ≡ true) ⌝ }
+{
+    if w == NAME {
+        return is_plain_64(s, at);
+    }
+    if w == OPCODE_NAME {
+        return is_plain_40(s, at);
+    }
+    false
+}
+
+// A name of at most 32 bytes, or of more that ends before the field's last byte.
+fn is_plain_64(s: &[u8], at: usize) -> bool
+    requires { ⌜ at + 64 ≤ length (now s) ⌝ }
+    ensures { λ r. ⌜ (r ≡ true → nameOk (now (s .entry)) at 64 ≡ true) ⌝ }
+{
+    if s[at] == 0 {
+        return false;
+    }
+    if fine_bytes(s, at) != 32 {
+        return false;
+    }
+    let from = at + 32;
+    let to = at + 64;
+    if all_zero(&s[from..to]) {
+        return true;
+    }
+    if fine_bytes(s, at + 31) != 32 {
+        return false;
+    }
+    s[at + 63] == 0
+}
+
+// A name of at most 32 bytes.
+fn is_plain_40(s: &[u8], at: usize) -> bool
+    requires { ⌜ at + 40 ≤ length (now s) ⌝ }
+    ensures { λ r. ⌜ (r ≡ true → nameOk (now (s .entry)) at 40 ≡ true) ⌝ }
+{
+    if s[at] == 0 {
+        return false;
+    }
+    if fine_bytes(s, at) != 32 {
+        return false;
+    }
+    let from = at + 32;
+    let to = at + 40;
+    all_zero(&s[from..to])
+}
+
+// How many of the 32 bytes from place from are fine before the next. The sum has no branch, so that sixteen bytes are added at once.
+fn fine_bytes(s: &[u8], from: usize) -> u8
+    requires { ⌜ from + 33 ≤ length (now s) ⌝ }
+    ensures { λ r. ⌜ (r ≡ 32 → Fine (now (s .entry)) from (from + 32)) ⌝ }
+{
+    let mut sum: u8 = 0;
+    let mut i = 0;
+    while i < 32 {
+        let k = from + i;
+        sum += fine(s[k], s[k + 1]);
+        i += 1;
+    }
+    sum
+}
+
+// 1 for a byte b that may stand before c: a character of a name, or a zero before a zero.
+fn fine(b: u8, c: u8) -> u8
+    ensures { λ r. ⌜ r ≡ cond (isFine b c) 1 0 ⌝ }
+{
+    if is_name(b) {
+        return 1;
+    }
+    if greater(b, c) == 0 { 1 } else { 0 }
+}
+
+fn greater(b: u8, c: u8) -> u8
+    ensures { λ r. ⌜ r ≡ max b c ⌝ }
+{
+    if b < c { c } else { b }
+}
+
+// A letter, a digit or an underscore. By differences that wrap both cases of a letter are one comparison.
 fn is_name(b: u8) -> bool
     ensures { λ r. ⌜ r ≡ isName b ⌝ }
 {
-    if 97 <= b {
-        b <= 122
-    } else if 65 <= b {
-        if b == 95 { true } else { b <= 90 }
-    } else if 48 <= b {
-        b <= 57
-    } else {
-        false
+    if std::num::wrapping_sub_u8(b, 97) < 26 {
+        return true;
     }
+    if std::num::wrapping_sub_u8(b, 65) < 26 {
+        return true;
+    }
+    if std::num::wrapping_sub_u8(b, 48) < 10 {
+        return true;
+    }
+    b == 95
 }
 
 // The first place from from, below to, whose byte is no part of a name; to where there is none.
@@ -151,73 +252,56 @@ fn name_end(s: &[u8], from: usize, to: usize) -> usize
     i
 }
 
-// The first place from from, below to, whose byte is not zero; to where there is none.
-pub(crate) fn zeros_end(s: &[u8], from: usize, to: usize) -> usize
-    requires { ⌜ to ≤ length (now s) ⌝ }
-    ensures { λ r. ⌜ r ≡ firstFrom (notZero (now (s .entry))) from (to - from) ⌝ }
+// Whether a field has only zeros: eight bytes are tested at once, the last eight once more.
+pub(crate) fn all_zero(field: &[u8]) -> bool
+    ensures { λ r. ⌜ r ≡ isNamed (now (field .entry)) 0 (length (now (field .entry))) [] ⌝ }
 {
-    if to <= from {
-        return from;
+    let n = field.len();
+    if n < 8 {
+        return words::le_at(field, 0, n) == 0;
     }
-    let field = &s[from..to];
-    let i = zero_words(field);
-    from + first_set(field, i)
-}
-
-// The place behind the words of eight zero bytes that a field begins with: a search may start there.
-fn zero_words(field: &[u8]) -> usize
-    ensures { λ r. ⌜ firstFrom (notZero (now (field .entry))) 0 (length (now (field .entry)))
-        ≡ firstFrom (notZero (now (field .entry))) r (length (now (field .entry)) - r) ⌝ }
-{
     let mut i = 0;
-    while 8 <= field.len() - i {
+    while 8 < n - i {
         if words::u64_at(field, i) != 0 {
-            return i;
-        }
-        i += 8;
-    }
-    i
-}
-
-// The first place of a field from from on whose byte is not zero; its end where there is none.
-fn first_set(field: &[u8], from: usize) -> usize
-    ensures { λ r. ⌜ r ≡ firstFrom (notZero (now (field .entry))) from (length (now (field .entry)) - from) ⌝ }
-{
-    let mut i = from;
-    while i < field.len() {
-        if field[i] != 0 {
-            return i;
-        }
-        i += 1;
-    }
-    i
-}
-
-// Whether the field of w bytes at place at holds this name: eight bytes are compared at once.
-fn field_is(s: &[u8], at: usize, w: u8, name: &[u8]) -> bool
-    requires { ⌜ at ≤ length (now s) ⌝ }
-    ensures { λ r. ⌜ r ≡ isNamed (now (s .entry)) at w (now (name .entry)) ⌝ }
-{
-    let end = w as usize;
-    let mut i = 0;
-    while i < end {
-        let n = end - i;
-        if word_at(s, at + i, n) != word_at(name, i, n) {
             return false;
         }
         i += 8;
     }
-    true
+    words::u64_at(field, n - 8) == 0
 }
 
-// The number that n bytes from place i hold, at most eight of them; for eight it is one load.
-fn word_at(s: &[u8], i: usize, n: usize) -> u64
-    ensures { λ r. ⌜ r ≡ leAt (now (s .entry)) i (min n 8) ⌝ }
+// Whether a field has the bytes of another: eight are compared at once, the last eight once more.
+fn same_bytes(a: &[u8], b: &[u8]) -> bool
+    ensures { λ r. ⌜ r ≡ isNamed (now (a .entry)) 0 (length (now (a .entry))) (now (b .entry)) ⌝ }
 {
+    let n = a.len();
     if n < 8 {
-        return words::le_at(s, i, n);
+        return words::le_at(a, 0, n) == words::le_at(b, 0, n);
     }
-    words::u64_at(s, i)
+    let mut i = 0;
+    while 8 < n - i {
+        if words::u64_at(a, i) != words::u64_at(b, i) {
+            return false;
+        }
+        i += 8;
+    }
+    words::u64_at(a, n - 8) == words::u64_at(b, n - 8)
+}
+
+// Whether the field of w bytes at place at holds this name, which may be shorter, byte by byte.
+fn field_is(s: &[u8], at: usize, w: u8, name: &[u8]) -> bool
+    requires { ⌜ at ≤ length (now s) ⌝ }
+    ensures { λ r. ⌜ r ≡ isNamed (now (s .entry)) at w (now (name .entry)) ⌝ }
+{
+    let n = w as usize;
+    let mut i = 0;
+    while i < n {
+        if words::byte_at(s, at + i) != words::byte_at(name, i) {
+            return false;
+        }
+        i += 1;
+    }
+    true
 }
 
 // The first place from from, below to, whose byte is zero; to where there is none.

@@ -9,7 +9,8 @@ ghost use mathlib.Core.Path.{_≡_};
 ghost use Prim.Native.Nat.{_+_, _-_, _*_, _/_, _<_, _≤_, min};
 ghost use lib.ListN.{length};
 ghost use Rattle.laws.specs.Scan.{firstFrom};
-ghost use Rattle.tables.specs.Records.{opcodeSize, opcodeStart, opcodeCount, typeCount, typeNameSize, typeNames, fixedTypes, operandCount, typeCode, width, prefixOp, prefixesOf, hasTypeName, nameFits, sizeFits, sizeGood, typeOk, typeFault, noType, opcodeOk, opcodeFault};
+ghost use Rattle.tables.specs.Records.{opcodeSize, opcodeStart, opcodeCount, typeCount, typeNameSize, typeNames, fixedTypes, operandCount, typeCode, width, prefixOp, prefixesOf, hasTypeName, nameFits, sizeFits, sizeGood, typeOk, typeFault, opcodeOk, opcodeFault};
+ghost use Rattle.tables.specs.mirror.Fields.{codesFit};
 ghost use Rattle.tables.specs.mirror.Rows.{rows};
 ghost use Rattle.tables.specs.Check.{checkOpcodes, checkTypes};
 
@@ -102,34 +103,37 @@ fn opcode_ok(s: &[u8], at: usize, known: usize) -> bool
     requires { ⌜ at + opcodeSize ≤ length (now s) ⌝ }
     ensures { λ r. ⌜ r ≡ opcodeOk (now (s .entry)) at known ⌝ }
 {
-    if words::byte_at(s, at + 40) > 2 {
+    if s[at + 40] > 2 {
         return false;
     }
-    let count = words::byte_at(s, at + 41) as usize;
+    let count = s[at + 41];
     if count > 8 {
         return false;
     }
-    let codes = at + 42;
-    let used = codes + count;
-    if types_end(s, codes, used, known) != used {
+    if !codes_fit(s, at + 42, count, known) {
         return false;
     }
-    let end = at + OPCODE_SIZE;
-    crate::names::zeros_end(s, used, end) == end
+    let from = at + 50;
+    let to = at + 64;
+    crate::names::all_zero(&s[from..to])
 }
 
-// The first place from from, below to, whose byte is no type's number; to where there is none.
-fn types_end(s: &[u8], from: usize, to: usize, known: usize) -> usize
-    ensures { λ r. ⌜ r ≡ firstFrom (noType (now (s .entry)) known) from (to - from) ⌝ }
+// Whether the first count of the eight codes at place at are types' numbers and the others 0; the codes are read as one number.
+fn codes_fit(s: &[u8], at: usize, count: u8, known: usize) -> bool
+    requires { ⌜ (at + 8 ≤ length (now s)) × (count ≤ 8) ⌝ }
+    ensures { λ r. ⌜ r ≡ codesFit (now (s .entry)) at count known ⌝ }
 {
-    let mut i = from;
-    while i < to {
-        if known <= words::byte_at(s, i) as usize {
-            return i;
+    let to = at + 8;
+    let mut rest = words::u64_at(&s[at..to], 0);
+    let mut k = 0;
+    while k < count {
+        if known <= (rest % 256) as usize {
+            return false;
         }
-        i += 1;
+        rest = rest / 256;
+        k += 1;
     }
-    i
+    rest == 0
 }
 
 // The first record with this prefix mark.

@@ -4,7 +4,8 @@ use mathlib.Core.Path.{_≡_, refl}
 use mathlib.Core.Bool.{Bool, true, false}
 use borrow.Author.Tests.{lt-ltb, le-ltb, le-leb, lt-leb}
 use lib.IntN.{ℤ, pos, negsuc, natAbs}
-use lib.ListN.{getD}
+use mathlib.Core.List.{List}
+use lib.ListN.{getD, replicate}
 use Rattle.laws.proofs.Tests.{clash}
 use Rattle.words.specs.Signed.{negative}
 use Rattle.operand.specs.declared.Operand.{Operand}
@@ -14,11 +15,15 @@ use Rattle.flow.specs.declared.Kind.{Kind}
 use Rattle.flow.specs.declared.Kind.the-variants.{On, Ends, Jumps, Branches, JumpsBack, Switch}
 use Rattle.flow.specs.declared.Flow.{Flow}
 use Rattle.serializer.specs.declared.Elem.{Elem}
+use Rattle.serializer.proofs.Windows.{no-blocks}
+use Rattle.targets.specs.declared.Pool.{Pool}
 use Rattle.targets.specs.declared.Index.{Index}
 use Rattle.targets.specs.declared.Number.{Number}
 use Rattle.targets.specs.declared.Target.{Target}
 use Rattle.targets.specs.Targets.{operandOf, here, indexOf, numberOf, elemNumber, distanceBy, targetBy, jumpTarget, countOk}
 use Rattle.targets.specs.mirror.Jumps.{isJump}
+use Rattle.targets.specs.mirror.Search.{PoolBlocked}
+use Rattle.targets.specs.declared.Pool.the-variants as pool
 use Rattle.targets.specs.declared.Number.the-variants as number
 use Rattle.targets.specs.declared.Target.the-variants as target
 
@@ -30,6 +35,11 @@ module _ (i : Instr) (k : ℕ) where
   pub operand-some : k < min (i .count) 8 → getD (i .operands) k (record { operand = Nothing }) .operand ≡ operandOf i k
   unfolding operandOf
   operand-some h = rw (lt-ltb k (min (i .count) 8) h)
+
+-- zeros summarise every pool
+pub no-pool-blocks : (s : List ℕ) (ts : ℕ) (p : Pool) (n : ℕ) → PoolBlocked s ts p (replicate n 0)
+no-pool-blocks s ts (pool.At p) n = no-blocks s (p .first) ts (p .count) n
+no-pool-blocks s ts pool.Nothing n = tt
 
 -- ---- the steps of a target
 no-number : (k : Kind) (at : ℕ) → target.Nothing ≡ targetBy k at number.Nothing

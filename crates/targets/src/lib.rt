@@ -9,7 +9,7 @@ ghost use Prim.Native.Nat.{_+_};
 ghost use Rattle.targets.specs.declared.Number.the-variants as number;
 ghost use Rattle.targets.specs.Targets.{found, operandOf, here, indexOf, numberOf, targetBy, jumpTarget, isSwitch, baseOf, sizedBy, tableBy, jumpTable, entryAt};
 ghost use Rattle.targets.specs.mirror.Jumps.{isJump};
-ghost use Rattle.targets.specs.mirror.Search.{poolSearched};
+ghost use Rattle.targets.specs.mirror.Search.{poolSearched, PoolBlocked};
 
 // The slots of the constant pool.
 pub struct PoolSlots {
@@ -58,17 +58,44 @@ pub enum Entry {
     Skipped,
 }
 
+// The summary of the pool's slots that the `_in` calls take: made once where many elements are sought.
+pub fn pool_blocks(slots: &[u8], ts: u8, pool: Pool) -> [u32; 4096]
+    ensures { λ r. ⌜ PoolBlocked (now (slots .entry)) ts pool r ⌝ }
+{
+    match pool {
+        Pool::At(p) => serializer::elem_blocks(slots, p.first, p.count, ts),
+        Pool::Nothing => [0u32; 4096],
+    }
+}
+
 // Element n of the pool.
 pub fn pool_elem(slots: &[u8], payload: &[u8], ts: u8, pool: Pool, n: u64) -> Elem
     ensures { λ r. ⌜ r ≡ poolSearched (now (slots .entry)) (now (payload .entry)) ts pool n ⌝ }
 {
+    let none = [0u32; 1];
+    pool_elem_in(slots, payload, &none, ts, pool, n)
+}
+
+pub fn pool_elem_in(
+    slots: &[u8],
+    payload: &[u8],
+    blocks: &[u32],
+    ts: u8,
+    pool: Pool,
+    n: u64,
+) -> Elem
+    ensures { λ r. ⌜ (PoolBlocked (now (slots .entry)) ts pool (now (blocks .entry))
+        → r ≡ poolSearched (now (slots .entry)) (now (payload .entry)) ts pool n) ⌝ }
+{
     match pool {
-        Pool::At(p) => serializer::array_elem_unchecked(slots, payload, p.first, p.count, ts, n),
+        Pool::At(p) => {
+            serializer::array_elem_in(slots, payload, blocks, p.first, p.count, ts, n)
+        }
         Pool::Nothing => Elem::Nothing,
     }
 }
 
-// The target of a jump. Each step is taken apart or answers no target.
+// The target of a jump.
 pub fn jump_target_unchecked(
     slots: &[u8],
     payload: &[u8],
@@ -78,6 +105,23 @@ pub fn jump_target_unchecked(
     instr: Instr,
 ) -> Target
     ensures { λ r. ⌜ r ≡ jumpTarget (poolSearched (now (slots .entry)) (now (payload .entry)) ts pool) flow instr ⌝ }
+{
+    let none = [0u32; 1];
+    jump_target_in(slots, payload, &none, ts, pool, flow, instr)
+}
+
+// Each step is taken apart or answers no target.
+pub fn jump_target_in(
+    slots: &[u8],
+    payload: &[u8],
+    blocks: &[u32],
+    ts: u8,
+    pool: Pool,
+    flow: Flow,
+    instr: Instr,
+) -> Target
+    ensures { λ r. ⌜ (PoolBlocked (now (slots .entry)) ts pool (now (blocks .entry))
+        → r ≡ jumpTarget (poolSearched (now (slots .entry)) (now (payload .entry)) ts pool) flow instr) ⌝ }
 {
     let kind = flow.kind;
     if !is_jump(kind) {
@@ -96,9 +140,10 @@ pub fn jump_target_unchecked(
     let Pool::At(p) = pool else {
         return Target::Nothing;
     };
-    let Elem::Smi(d) = serializer::array_elem_unchecked(
+    let Elem::Smi(d) = serializer::array_elem_in(
         slots,
         payload,
+        blocks,
         p.first,
         p.count,
         ts,
@@ -140,8 +185,25 @@ pub fn jump_entry_unchecked(
 ) -> Entry
     ensures { λ r. ⌜ r ≡ entryAt (poolSearched (now (slots .entry)) (now (payload .entry)) ts pool) at e k ⌝ }
 {
+    let none = [0u32; 1];
+    jump_entry_in(slots, payload, &none, ts, pool, at, e, k)
+}
+
+pub fn jump_entry_in(
+    slots: &[u8],
+    payload: &[u8],
+    blocks: &[u32],
+    ts: u8,
+    pool: Pool,
+    at: u64,
+    e: Entries,
+    k: u16,
+) -> Entry
+    ensures { λ r. ⌜ (PoolBlocked (now (slots .entry)) ts pool (now (blocks .entry))
+        → r ≡ entryAt (poolSearched (now (slots .entry)) (now (payload .entry)) ts pool) at e k) ⌝ }
+{
     let n = e.start as u64 + k as u64;
-    let Elem::Smi(v) = pool_elem(slots, payload, ts, pool, n) else {
+    let Elem::Smi(v) = pool_elem_in(slots, payload, blocks, ts, pool, n) else {
         return Entry::Skipped;
     };
     Entry::Shown {

@@ -1,10 +1,10 @@
 -- From what the search answers to the call's equation, and from the equation to demand 3. Assumes nothing.
 use Prim.Native.Nat.{ℕ, zero, suc, _<_, _≤_}
 use mathlib.Core.Path.{_≡_, refl, sym, ap, subst, _∙_}
-use mathlib.Core.List.{List, [], _++_, append-nil}
+use mathlib.Core.List.{List, _++_}
 use native.Mathlib.Omega.{arith}
 use borrow.Author.Tests.{lt-ltb, le-ltb, le-leb, lt-leb}
-use lib.ListN.{length, drop, drop-of-length-le}
+use lib.ListN.{length, drop}
 use Rattle.refusal.specs.declared.Refusal.{Refusal}
 use Rattle.refusal.specs.declared.Check.{Check}
 use Rattle.refusal.specs.declared.Check.the-variants.{Ok, Refused}
@@ -16,14 +16,16 @@ use Rattle.function.specs.Code.{codeCheck, listingCheck}
 use Rattle.refusal.proofs.Laws.{never, or-left}
 use Rattle.graph.specs.Graph.{Finding, Answer, finding, markList}
 use Rattle.graph.specs.Graph.Finding.{closed, leaves}
-use Rattle.graph.proofs.Answers.{found, computed}
-use Rattle.graph.proofs.Same.{answer-same}
+use Rattle.graph.proofs.Answers.{computed}
+use Rattle.search.specs.declared.Searched.{Searched}
+use Rattle.search.specs.mirror.Kept.{keptGraph, findingAs, IsFound}
 use Rattle.steps.specs.Steps.{Source, listing, walkGraph}
-use Rattle.steps.specs.mirror.Ways.{searchGraph}
-use Rattle.steps.proofs.Same.{search-less, less-search, walk-good}
+use Rattle.steps.specs.mirror.Keeping.{Keeps}
+use Rattle.steps.proofs.Listed.{walk-good}
+use Rattle.steps.proofs.Keeps.{keeps-found}
 use Rattle.walk.specs.declared.Walked.{Walked}
 use Rattle.walk.specs.Walk.{answer, walkCheck, walkFound, walkSource, Promise}
-use Rattle.walk.specs.mirror.Search.{WalkedBy, Answered}
+use Rattle.walk.specs.mirror.Search.{WalkedBy}
 use Rattle.walk.specs.declared.Walked.the-variants as walked
 
 -- a listing that no fault ended came to the code's end
@@ -39,14 +41,7 @@ list-ends d (suc f) at ok = go (d at .outcome) ok (list-ends d f (d at .instr .e
     go (Outcome.Refused r) ok rest = never r ok
     go Outcome.Done ok rest = rest ok
 
--- of no marks none are left over
-no-rest : (n : ℕ) (l : List ℕ) → l ++ drop n [] ≡ l
-no-rest n l = ap (λ (x : List ℕ). l ++ x) (drop-of-length-le [] {i = n} (omega arith)) ∙ append-nil l
-
 module _ (s : Source) where
-  abbrev marks : List ℕ
-  marks = markList (walkGraph s) (finding (walkGraph s)) (length (s .code))
-
   abbrev whole : Check
   whole = listingCheck (s .opcodes) (s .pooled) (listing s)
 
@@ -55,18 +50,6 @@ module _ (s : Source) where
 
   pub ended : whole ≡ Ok → listing s .outcome ≡ Outcome.End
   ended ok = list-ends (decodes (s .code) (s .opcodes) (s .types) (s .rfs)) (suc (length (s .code))) 0 (no-fault ok)
-
-  -- ---- the search
-  module _ (end : listing s .outcome ≡ Outcome.End) where
-    right : {M : List ℕ} {f : Finding} → length M ≡ length (s .code) → Answer (searchGraph s) (length (s .code)) M f → WalkedBy (walkFound s []) (answer f) M
-    right len a =
-        let x = found (walk-good s end) len (answer-same (search-less s) (less-search s) a) in
-        (ap answer (x .0), x .1 ∙ sym (no-rest (length (s .code)) marks))
-
-    pub searched : (M : List ℕ) (r : Walked) → length M ≡ length (s .code) → Answered (searchGraph s) (length (s .code)) M r → WalkedBy (walkFound s []) r M
-    searched M walked.Closed len a = right len a
-    searched M (walked.Leaves n o) len a = right len a
-    searched M (walked.Refused r) len a = absurd a
 
   -- ---- the call, by what the pass said
   module _ (M : List ℕ) where
@@ -84,12 +67,14 @@ module _ (s : Source) where
         unfolding walkSource
         source-short h = rw (sym ok, lt-ltb 0 (length (s .code)) (omega arith), lt-leb (length (s .code)) (length M) h) (refl, refl)
 
-        -- marks Y were searched by themselves, and stand in front of the rest again
-        pub source-found : (r : Walked) (Y : List ℕ) → length (s .code) ≤ length M → WalkedBy (walkFound s []) r Y → WalkedBy (walkSource s M) r (Y ++ drop (length (s .code)) M)
+        -- marks Y were searched by themselves over the numbers that keep the code, and stand in front of the rest again
+        pub source-found : {heads words Y : List ℕ} {n : ℕ} (r : Searched) (w : Walked) → length (s .code) ≤ length M → length (s .code) ≤ 65536 → n ≡ length (s .code) → length heads ≡ n
+            → Keeps s heads words → IsFound (keptGraph (s .elem) heads words) n r Y → w ≡ answer (findingAs r) → WalkedBy (walkSource s M) w (Y ++ drop (length (s .code)) M)
         unfolding walkSource
-        source-found r Y h w =
+        source-found {heads} {words} {Y} {n} r w h few all as-many k f is =
+            let x = keeps-found s heads words k few (omega (arith, few, all, as-many)) (ended (sym ok)) n r Y f in
             rw (sym ok, lt-ltb 0 (length (s .code)) (omega arith), le-leb (length (s .code)) (length M) h)
-            (w .0, ap (λ (y : List ℕ). y ++ drop (length (s .code)) M) (w .1 ∙ no-rest (length (s .code)) marks))
+            (is ∙ ap answer (x .0), ap (λ (y : List ℕ). y ++ drop (length (s .code)) M) (x .1 ∙ ap (markList (walkGraph s) (finding (walkGraph s))) all))
 
   -- ---- demand 3
   met : (M : List ℕ) (f : Finding) → Answer (walkGraph s) (length (s .code)) M f → Promise s (answer f) M

@@ -1,50 +1,46 @@
--- What the functions of the search learn of a step and of a start. Assumes nothing.
+-- What the functions learn of what is decoded and kept, and of room. Assumes nothing.
 use Prim.Native.Nat.{ℕ, _≤_}
 use mathlib.Core.Path.{_≡_, refl, sym, ap, subst, _∙_}
-use mathlib.Core.Bool.{true, false}
+use mathlib.Core.Bool.{Bool, true, false, cond}
 use mathlib.Core.List.{List}
-use borrow.Author.Tests.{eq-eqb, ne-eqb}
-use lib.ListN.{getD, getElem?}
+use mathlib.Core.Logic.{⊎-elim}
+use native.Mathlib.Omega.{arith}
+use lib.ListN.{getD, take, length, replicate, length-take, List·getD-eq-default}
+use lib.Seq.{getD-take}
 use lib.IntN.{ℤ}
-use Rattle.decoder.specs.declared.Decoded.{Decoded}
+use Rattle.laws.proofs.Tests.{under?}
+use Rattle.refusal.specs.declared.Check.{Check}
+use Rattle.refusal.specs.declared.Check.the-variants.{Ok}
+use Rattle.refusal.specs.Check.{refused}
 use Rattle.decoder.specs.Decode.{decodeAt}
 use Rattle.decoder.specs.Listed.{decodes}
 use Rattle.flow.specs.Opcodes.{opcodesOf}
-use Rattle.flow.specs.declared.Flow.{Flow}
+use Rattle.targets.specs.declared.Table.{Table}
+use Rattle.targets.specs.declared.Table.the-variants as table
 use Rattle.function.specs.declared.Function.{Function}
-use Rattle.graph.specs.Graph.{Graph, isStart}
-use Rattle.graph.specs.mirror.Queue.{stepOf}
-use Rattle.steps.specs.declared.Next.{Next}
-use Rattle.steps.specs.declared.Way.{Way}
-use Rattle.steps.specs.Steps.{Source}
-use Rattle.steps.specs.mirror.Ways.{stepAs, wayOf, waySteps, wayAt, searchGraph}
-use Rattle.walk.specs.mirror.Search.{Tabled, StartsAre}
-
--- a step by its number, of an instruction whose way is known
-pub step-is : (s : Source) (o k : ℕ) {w : Way} (r : Next) → stepAs r ≡ getElem? (waySteps (s .elem) w) k → w ≡ wayAt s o → stepAs r ≡ stepOf (searchGraph s) o k
-unfolding searchGraph
-step-is s o k r e h = e ∙ ap (λ (w : Way). getElem? (waySteps (s .elem) w) k) h
-
--- the byte b among the starts
-pub start-yes : (g : Graph) (S : List ℕ) (t b : ℕ) → StartsAre (g .starts) S → b ≡ getD S t 0 → b ≡ 1 → isStart g t ≡ true
-unfolding isStart
-start-yes g S t b h e one = h t ∙ eq-eqb _ _ (sym e ∙ one)
-
-pub start-no : (g : Graph) (S : List ℕ) (t b : ℕ) → StartsAre (g .starts) S → b ≡ getD S t 0 → (b ≡ 1 → ⊥) → isStart g t ≡ false
-unfolding isStart
-start-no g S t b h e no-one = h t ∙ ne-eqb _ _ (λ x. no-one (e ∙ x))
+use Rattle.function.specs.Code.{tableCheck}
+use Rattle.graph.proofs.Queues.{zero-at}
+use Rattle.steps.proofs.Laws.{isRefused}
+use Rattle.walk.specs.mirror.Search.{Tabled, Clear}
 
 -- what is decoded with the prefix opcodes that were found once
 pub decoded-is : {ops flows : List ℕ} {u : Function} (code types : List ℕ) (rfs : ℤ) (o : ℕ) → Tabled ops flows u → decodeAt code (opcodesOf ops) types o rfs (u .wide) (u .extra) ≡ decodes code (opcodesOf ops) types rfs o
 decoded-is {ops} code types rfs o t = rw (t .wide, t .extra) refl
 
--- where an instruction goes, of what was decoded and its flow
-pub way-is : (s : Source) (o : ℕ) (x : Decoded) {f : Flow} {w : Way} → x ≡ decodes (s .code) (s .opcodes) (s .types) (s .rfs) o
-    → f ≡ s .opcodes .flow (x .instr .opcode) → w ≡ wayOf (s .elem) (s .pooled) f (x .instr) → w ≡ wayAt s o
-unfolding wayAt
-way-is s o x e f w =
-    w ∙ ap (λ (y : Flow). wayOf (s .elem) (s .pooled) y (x .instr)) f ∙ ap (λ (y : Decoded). wayOf (s .elem) (s .pooled) (s .opcodes .flow (y .instr .opcode)) (y .instr)) e
+-- the check of a table, by whether it is refused
+pub check-is : (t : Table) (at : ℕ) → cond (isRefused t) (refused 16 at) Ok ≡ tableCheck t at
+check-is table.Nothing at = refl
+check-is (table.At e) at = refl
+check-is table.Refused at = refl
 
--- an array of k bytes has room for n
+-- ---- room
+-- an array of k numbers has room for n
 pub room-of : (n m k : ℕ) → n ≤ k → m ≡ k → n ≤ m
 room-of n m k h e = subst (λ (x : ℕ). n ≤ x) (sym e) h
+
+-- one of zeros, and the part of it that is lent, have no head
+pub clear-of : (k : ℕ) (l : List ℕ) → l ≡ replicate k 0 → Clear l
+clear-of k l e t = ap (λ (x : List ℕ). getD x t 0) e ∙ zero-at k t
+
+pub clear-part : (n : ℕ) (l : List ℕ) → Clear l → Clear (take n l)
+clear-part n l c t = ⊎-elim (λ h. getD-take n l t 0 h ∙ c t) (λ h. List·getD-eq-default (take n l) 0 (omega (arith, length-take n l))) (under? t n)

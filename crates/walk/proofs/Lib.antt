@@ -1,6 +1,6 @@
 pub mod Numbers
 pub mod Rows
 pub mod Laws
-pub mod Starts
+pub mod Keeping
 pub mod Answers
 pub mod Searched

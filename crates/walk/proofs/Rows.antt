@@ -22,15 +22,15 @@ use Rattle.serializer.specs.Field.{rawAt}
 use Rattle.tables.specs.Check.{records, checkNames, isFaulty, firstFault, checkTable}
 use Rattle.tables.specs.Names.{badName}
 use Rattle.tables.specs.Records.{opcodeSize, opcodeNameSize, mostOpcodes, typeSize, typeNameSize, fixedTypes, mostTypes, nameSize, mostRuntime, mostIntrinsic, opcodeCount, typeCount, opcodeStart, opcodeOk, opcodeFault, typeOk, typeFault}
-use Rattle.tables.specs.Layout.{layoutSize, badValue, layoutOf}
+use Rattle.layout.specs.Layout.{layoutSize, badValue, layoutOf}
 use Rattle.header.specs.declared.HeaderAnswer.{HeaderAnswer}
 use Rattle.header.specs.declared.HeaderAnswer.the-variants as header-answer
 use Rattle.header.specs.Header.{headerBy, lengthOk, lengthBy, rtFor}
-use Rattle.decoder.specs.declared.Head.{Head}
+use Rattle.prefix.specs.declared.Head.{Head}
 use Rattle.decoder.specs.declared.Instr.{Instr}
 use Rattle.decoder.specs.declared.Outcome.{Outcome}
 use Rattle.decoder.specs.declared.Decoded.{Decoded}
-use Rattle.decoder.specs.Head.{opAt, behind, headAt}
+use Rattle.prefix.specs.Head.{opAt, behind, headAt}
 use Rattle.decoder.specs.Decode.{Part, partsFrom, operandTypes, partWidth, offsetOf, isShort, shortNumber, refusedAt, readParts, decodeHead, decodeAt}
 use Rattle.decoder.specs.Listed.{listOn, listFrom, decodes}
 use Rattle.flow.specs.Opcodes.{Opcodes, prefixWith}

@@ -16,8 +16,8 @@ use Rattle.store.specs.declared.Object.{Object}
 use Rattle.store.specs.Records.{objectOf}
 use Rattle.serializer.specs.declared.Elem.{Elem}
 use Rattle.serializer.specs.declared.RawAt.{RawAt}
-use Rattle.tables.specs.declared.Layout.{Layout}
-use Rattle.tables.specs.Layout.{layoutOf}
+use Rattle.layout.specs.declared.Layout.{Layout}
+use Rattle.layout.specs.Layout.{layoutOf}
 use Rattle.tables.specs.Check.{checkTable}
 use Rattle.header.specs.declared.Header.{Header}
 use Rattle.header.specs.declared.HeaderAnswer.{HeaderAnswer}

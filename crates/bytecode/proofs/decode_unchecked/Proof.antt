@@ -2,7 +2,7 @@ use mathlib.Core.Path.{_∙_}
 use mir.Facts.{toZ-ofZ}
 use mir.Syntax.{w32}
 use mir.Val.{SFits}
-use Rattle.tables.specs.Layout.{layoutOf}
+use Rattle.layout.specs.Layout.{layoutOf}
 use borrow.Author.Needs.{needs}
 use Rattle.bytecode.proofs.decode_unchecked.Statement.{statement}
 use Rattle.bytecode.proofs.decode_unchecked.Tie as tie

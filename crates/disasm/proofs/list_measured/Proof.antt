@@ -1,8 +1,8 @@
-use borrow.Author.Needs.{needs}
 use mathlib.Core.Path.{refl}
 use native.Mathlib.Omega.{arith}
 use denote.Ref.{now}
 use Rattle.text.proofs.PutText.{fits-then, refused-then}
+use borrow.Author.Needs.{needs}
 use Rattle.disasm.proofs.list_measured.Statement.{statement}
 use Rattle.disasm.proofs.list_measured.Tie as tie
 
@@ -25,13 +25,17 @@ same-length : tie.Need-same-length
 same-length c = search needs
 
 returns : tie.Need-returns
-returns c = fits-then _ (now (c .before .before .before .before .before .before .before .before .before .before .before .before .before .before .before .before .before .before .args .out)) (omega (arith, c .before .before .before .before .before .before .before .before .before .before .before .before .before .before .before .before .before .before .good)) (c .before .before .before .before .before .before .before .put-all .ensures) refl (omega (arith, c .before .before .before .before .if1 .taken)) (c .before .before .put-all2 .ensures)
+returns c =
+    let s = c .before .before .before .before .before .before .before .before .before .before .before .before .before .before .before .before .before in
+    fits-then _ (now (s .args .out)) (omega (arith, s .good)) (c .before .before .before .before .before .before .before .put-all .ensures) refl (omega (arith, c .before .before .before .before .if1 .taken)) (c .before .before .put-all2 .ensures)
 
 same-length-2 : tie.Need-same-length-2
 same-length-2 c = search needs
 
 returns-2 : tie.Need-returns-2
-returns-2 c = refused-then _ (now (c .before .before .before .before .before .before .before .before .before .before .before .before .before .before .args .out)) (omega (arith, c .before .before .before .before .before .before .before .before .before .before .before .before .before .before .good)) (c .before .before .before .put-all .ensures) refl (omega (arith, c .if1 .left))
+returns-2 c =
+    let s = c .before .before .before .before .before .before .before .before .before .before .before .before .before in
+    refused-then _ (now (s .args .out)) (omega (arith, s .good)) (c .before .before .before .put-all .ensures) refl (omega (arith, c .if1 .left))
 
 pub list-measured-spec : {M : Type 1} → statement M
 list-measured-spec =

@@ -1,6 +1,6 @@
 -- What the first pass over the instructions promises: `check-refused`, `check-fits` and `check-written` of proofs/Laws.antt tie it to `listView`
 -- of ../Listing.antt.
-use Prim.Native.Nat.{ℕ, _+_}
+use Prim.Native.Nat.{ℕ, _+_, _-_, _≤_, min}
 use mathlib.Core.Path.{_≡_}
 use mathlib.Core.List.{List, [], _∷_}
 use mathlib.Core.Bool.{Bool}
@@ -21,9 +21,11 @@ headerRoom = 250
 -- a length that the lines are not longer than
 unfoldable pub linesRoom : Opcodes → Bool → List Instr → ℕ
 linesRoom ops pooled [] = 0
-linesRoom ops pooled (i ∷ is) = let flow = ops .flow (i .opcode) in lineRoom flow i (jumpTable pooled flow i) + linesRoom ops pooled is
+linesRoom ops pooled (i ∷ is) =
+    let flow = ops .flow (i .opcode) in
+    lineRoom flow (min (i .count) 8) (i .end - i .offset) (jumpTable pooled flow i) + linesRoom ops pooled is
 
--- the checks, and, where decoding came to the code's end, room for the header and the lines
+-- the checks, and, where decoding came to the code's end, room for the header and the lines, or more
 pub record Checked (ops : Opcodes) (pooled : Bool) (l : Listing) (r : Pass) : Type 0 where
   pub checked : r .check ≡ listingCheck ops pooled l
-  pub room : codeCheck (l .outcome) ≡ Ok → r .room ≡ place (headerRoom + linesRoom ops pooled (l .instrs))
+  pub room : codeCheck (l .outcome) ≡ Ok → place (headerRoom + linesRoom ops pooled (l .instrs)) ≤ r .room

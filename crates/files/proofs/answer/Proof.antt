@@ -5,15 +5,6 @@ use Rattle.files.proofs.answer.Tie as tie
 enum-told : tie.Need-enum-told
 enum-told c = search needs
 
-list-text-requires : tie.Need-list-text-requires
-list-text-requires c κs = search needs
-
-enum-told-2 : tie.Need-enum-told-2
-enum-told-2 c = search needs
-
-walk-text-requires : tie.Need-walk-text-requires
-walk-text-requires c κs = search needs
-
 returns : tie.Need-returns
 returns c = rw (c .before .before .enum-told .given .1) (c .list-text .ensures)
 
@@ -23,4 +14,4 @@ returns-2 c = rw (c .before .before .enum-told2 .given .1) (c .walk-text .ensure
 pub answer-spec : {M : Type 1} → statement M
 answer-spec =
     tie.close
-    (tie.spec enum-told list-text-requires enum-told-2 walk-text-requires returns returns-2)
+    (tie.spec enum-told (λ c κs. search needs) (λ c. search needs) (λ c κs. search needs) returns returns-2)

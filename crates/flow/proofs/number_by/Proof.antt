@@ -1,71 +1,38 @@
-use mathlib.Core.Path.{sym, _∙_}
+use Prim.Native.Nat.{ℕ}
+use mathlib.Core.Path.{_≡_, sym, ap, _∙_}
 use native.Mathlib.Omega.{arith}
 use borrow.Author.Needs.{needs}
 use denote.Ref.{now}
-use Rattle.flow.proofs.Letters.{only-in, no-letter, group-a, group-j, group-r, group-t}
+use lib.ListN.{getD}
+use Rattle.flow.specs.mirror.Index.{placeOf}
+use Rattle.flow.proofs.Index.{place-low, number-is, number-none}
 use Rattle.flow.proofs.number_by.Statement.{statement}
 use Rattle.flow.proofs.number_by.Tie as tie
 
-byte-at-requires : tie.Need-byte-at-requires
-byte-at-requires c κs = search needs
+element-copy-out-k : tie.Need-element-copy-out-k
+element-copy-out-k c = let a = c .before .before .before .args in rw (c .place-of .ensures) (place-low (now (a .opcodes)) (a .at))
 
-number-in-requires : tie.Need-number-in-requires
-number-in-requires c κs =
-    let a = c .before .before .before .before .args in
-    (only-in (now (a .opcodes)) (a .at) 65 4 4 (omega arith) (omega arith) group-a (sym (c .before .byte-at .ensures) ∙ c .match .keys1), c .before .before .before .before .pre)
-
-number-in-requires-2 : tie.Need-number-in-requires-2
-number-in-requires-2 c κs =
-    let a = c .before .before .before .before .args in
-    (only-in (now (a .opcodes)) (a .at) 74 5 34 (omega arith) (omega arith) group-j (sym (c .before .byte-at .ensures) ∙ c .match .keys2), c .before .before .before .before .pre)
-
-number-in-requires-3 : tie.Need-number-in-requires-3
-number-in-requires-3 c κs =
-    let a = c .before .before .before .before .args in
-    (only-in (now (a .opcodes)) (a .at) 82 0 3 (omega arith) (omega arith) group-r (sym (c .before .byte-at .ensures) ∙ c .match .keys3), c .before .before .before .before .pre)
-
-number-of-s-requires : tie.Need-number-of-s-requires
-number-of-s-requires c κs = (sym (c .before .byte-at .ensures) ∙ c .match .keys4, c .before .before .before .before .pre)
-
-number-in-requires-4 : tie.Need-number-in-requires-4
-number-in-requires-4 c κs =
-    let a = c .before .before .before .before .args in
-    (only-in (now (a .opcodes)) (a .at) 84 2 2 (omega arith) (omega arith) group-t (sym (c .before .byte-at .ensures) ∙ c .match .keys5), c .before .before .before .before .pre)
+-- the number in the index
+given : (c : tie.After-place-of) → getD (now (c .before .before .before .args .index)) (c .place-of .result) 0 ≡ getD (now (c .before .before .before .args .index)) (placeOf (now (c .before .before .before .args .opcodes)) (c .before .before .before .args .at)) 0
+given c = ap (λ (p : ℕ). getD (now (c .before .before .before .args .index)) p 0) (c .place-of .ensures)
 
 returns : tie.Need-returns
-returns c = search needs
+returns c =
+    let s = c .before .before .before .before .before in
+    let p = c .before .before in
+    number-none (now (s .args .opcodes)) (s .args .at) (now (s .args .index)) (s .pre .1) _ (given p) (λ l. absurd (omega arith))
 
 returns-2 : tie.Need-returns-2
-returns-2 c = search needs
+returns-2 c =
+    let p = c .before .before .before .before in
+    let s = p .before .before .before in
+    number-is (now (s .args .opcodes)) (s .args .at) (now (s .args .index)) (s .pre .1) _ (given p) (c .before .before .if1 .left) (sym (c .before .has-flow-name .ensures) ∙ c .if2 .taken)
 
 returns-3 : tie.Need-returns-3
-returns-3 c = search needs
-
-returns-4 : tie.Need-returns-4
-returns-4 c = search needs
-
-returns-5 : tie.Need-returns-5
-returns-5 c = search needs
-
-returns-6 : tie.Need-returns-6
-returns-6 c =
-    let a = c .before .before .before .before .args in
-    let n = c .match .rest in
-    no-letter (now (a .opcodes)) (a .at) _ (sym (c .before .byte-at .ensures)) (n .0 .0 .0 .0 .1) (n .0 .0 .0 .1) (n .0 .0 .1) (n .0 .1) (n .1)
+returns-3 c =
+    let p = c .before .before .before .before in
+    let s = p .before .before .before in
+    number-none (now (s .args .opcodes)) (s .args .at) (now (s .args .index)) (s .pre .1) _ (given p) (λ l. sym (c .before .has-flow-name .ensures) ∙ c .if2 .left)
 
 pub number-by-spec : {M : Type 1} → statement M
-number-by-spec =
-    tie.close
-    (tie.spec
-    byte-at-requires
-    number-in-requires
-    number-in-requires-2
-    number-in-requires-3
-    number-of-s-requires
-    number-in-requires-4
-    returns
-    returns-2
-    returns-3
-    returns-4
-    returns-5
-    returns-6)
+number-by-spec = tie.close (tie.spec (λ c κs. search needs) element-copy-out-k returns (λ c κs. search needs) returns-2 returns-3)

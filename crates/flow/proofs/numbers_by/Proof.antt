@@ -10,10 +10,10 @@ use Rattle.flow.proofs.numbers_by.Statement.{statement}
 use Rattle.flow.proofs.numbers_by.Tie as tie
 
 abbrev Inv-loop : tie.InvT-loop
-Inv-loop opcodes names flows₀ op₀ flows op = (op ≤ 256) × (length flows ≡ 256) × Numbered opcodes flows op
+Inv-loop opcodes names index flows₀ op₀ flows op = (op ≤ 256) × (length flows ≡ 256) × Numbered opcodes flows op
 
 abbrev μ-loop : tie.MeasureT-loop
-μ-loop opcodes names flows₀ op₀ flows op = 256 - op
+μ-loop opcodes names index flows₀ op₀ flows op = 256 - op
 
 loop-holds : tie.Need-loop-holds Inv-loop μ-loop
 loop-holds c = (omega arith, refl, λ o l. absurd (omega arith))

@@ -5,15 +5,6 @@ use Rattle.function.proofs.lent_pool.Tie as tie
 enum-told : tie.Need-enum-told
 enum-told c = search needs
 
-enum-known-object : tie.Need-enum-known-object
-enum-known-object c = search needs
-
-object-of-requires : tie.Need-object-of-requires
-object-of-requires c κs = search needs
-
-pool-of-requires : tie.Need-pool-of-requires
-pool-of-requires c κs = search needs
-
 returns : tie.Need-returns
 returns c = rw (c .enum-told .given .1)
 
@@ -23,4 +14,4 @@ returns-2 c = rw (c .before .before .before .object .given .1, ← c .before .ob
 pub lent-pool-spec : {M : Type 1} → statement M
 lent-pool-spec =
     tie.close
-    (tie.spec enum-told enum-known-object object-of-requires pool-of-requires returns returns-2)
+    (tie.spec enum-told (λ c. search needs) (λ c κs. search needs) (λ c κs. search needs) returns returns-2)

@@ -5,9 +5,6 @@ use borrow.Author.Needs.{needs}
 use Rattle.function.proofs.pool_by.Statement.{statement}
 use Rattle.function.proofs.pool_by.Tie as tie
 
-enum-known-found : tie.Need-enum-known-found
-enum-known-found c = search needs
-
 enum-told : tie.Need-enum-told
 enum-told c = search needs
 
@@ -15,17 +12,8 @@ returns : tie.Need-returns
 unfolding poolBy
 returns c = rw (c .enum-told .given .1)
 
-enum-known-value : tie.Need-enum-known-value
-enum-known-value c = search needs
-
 returns-2 : tie.Need-returns-2
 returns-2 c = rw (c .before .before .found .given .1) (not-object (now (c .before .before .before .before .before .args .objects)) (c .before .before .found .given .0 .0) (c .match2 .keys2))
-
-cast-object-of : tie.Need-cast-object-of
-cast-object-of c = search needs
-
-object-of-requires : tie.Need-object-of-requires
-object-of-requires c κs = search needs
 
 returns-3 : tie.Need-returns-3
 unfolding poolBy
@@ -35,11 +23,11 @@ pub pool-by-spec : {M : Type 1} → statement M
 pool-by-spec =
     tie.close
     (tie.spec
-    enum-known-found
+    (λ c. search needs)
     enum-told
     returns
-    enum-known-value
+    (λ c. search needs)
     returns-2
-    cast-object-of
-    object-of-requires
+    (λ c. search needs)
+    (λ c κs. search needs)
     returns-3)

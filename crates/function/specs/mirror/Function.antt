@@ -3,7 +3,7 @@ use Prim.Native.Nat.{ℕ, suc}
 use mathlib.Core.List.{List}
 use lib.ListN.{length}
 use lib.IntN.{ℤ}
-use Rattle.tables.specs.declared.Layout.{Layout}
+use Rattle.layout.specs.declared.Layout.{Layout}
 use Rattle.tables.specs.Records.{prefixOp}
 use Rattle.flow.specs.Opcodes.{opcodesOf}
 use Rattle.decoder.specs.declared.Decoded.{Decoded}

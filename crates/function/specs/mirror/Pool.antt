@@ -4,7 +4,7 @@ use mathlib.Core.List.{List}
 use Rattle.store.specs.declared.Object.{Object}
 use Rattle.store.specs.Records.{objectOf}
 use Rattle.serializer.specs.mirror.Search.{slotSearched}
-use Rattle.tables.specs.declared.Layout.{Layout}
+use Rattle.layout.specs.declared.Layout.{Layout}
 use Rattle.targets.specs.declared.Pool.{Pool}
 use Rattle.targets.specs.declared.Pool.the-variants as pool
 use Rattle.function.specs.declared.PoolObject.{PoolObject}

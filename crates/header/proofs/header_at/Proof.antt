@@ -1,7 +1,7 @@
 use mathlib.Core.Path.{ap}
 use denote.Ref.{now}
 use Rattle.store.specs.Records.{objectOf}
-use Rattle.tables.specs.Layout.{layoutOf}
+use Rattle.layout.specs.Layout.{layoutOf}
 use Rattle.header.specs.Calls.{headerCall}
 use Rattle.header.specs.Numbers.{headerNumbers}
 use Rattle.header.proofs.Searched.{header-searched, code-ordered}
@@ -9,23 +9,8 @@ use borrow.Author.Needs.{needs}
 use Rattle.header.proofs.header_at.Statement.{statement}
 use Rattle.header.proofs.header_at.Tie as tie
 
-check-header-requires : tie.Need-check-header-requires
-check-header-requires c κs = search needs
-
 enum-told : tie.Need-enum-told
 enum-told c = search needs
-
-object-of-requires : tie.Need-object-of-requires
-object-of-requires c κs = search needs
-
-layout-of-requires : tie.Need-layout-of-requires
-layout-of-requires c κs = search needs
-
-header-at-unchecked-requires : tie.Need-header-at-unchecked-requires
-header-at-unchecked-requires c κs = search needs
-
-enum-known-refusal : tie.Need-enum-known-refusal
-enum-known-refusal c = search needs
 
 returns : tie.Need-returns
 unfolding headerCall
@@ -48,11 +33,11 @@ pub header-at-spec : {M : Type 1} → statement M
 header-at-spec =
     tie.close
     (tie.spec
-    check-header-requires
+    (λ c κs. search needs)
     enum-told
-    object-of-requires
-    layout-of-requires
-    header-at-unchecked-requires
-    enum-known-refusal
+    (λ c κs. search needs)
+    (λ c κs. search needs)
+    (λ c κs. search needs)
+    (λ c. search needs)
     returns
     returns-2)

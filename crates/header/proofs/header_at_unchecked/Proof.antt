@@ -10,29 +10,17 @@ use Rattle.header.proofs.header_at_unchecked.Statement.{statement}
 use Rattle.header.specs.declared.HeaderAnswer.the-variants as header-answer
 use Rattle.header.proofs.header_at_unchecked.Tie as tie
 
-length-of-requires : tie.Need-length-of-requires
-length-of-requires c κs = search needs
-
-length-ok-requires : tie.Need-length-ok-requires
-length-ok-requires c κs = search needs
-
 returns : tie.Need-returns
 unfolding headerBy
 returns c =
     let b = toZ-ofZ {w = w64} {z = c .before .before .length-of .result} (sfits-of {w = w64} (c .before .before .length-of .ok)) in
     rw (← c .before .before .length-of .ensures, fell (simp b at (c .before .length-ok .ensures)) (c .if1 .taken))
 
-unsigned-abs-requires : tie.Need-unsigned-abs-requires
-unsigned-abs-requires c κs = search needs
-
 cast-n : tie.Need-cast-n
 cast-n c =
     let z = c .before .before .before .length-of .result in
     let b = toZ-ofZ {w = w64} {z = z} (sfits-of {w = w64} (c .before .before .before .length-of .ok)) in
     omega (arith, simp b at (c .unsigned-abs .ensures), length-small z (held (simp b at (c .before .before .length-ok .ensures)) (c .before .if1 .left)))
-
-header-with-requires : tie.Need-header-with-requires
-header-with-requires c κs = search needs
 
 returns-2 : tie.Need-returns-2
 unfolding headerBy
@@ -45,10 +33,10 @@ pub header-at-unchecked-spec : {M : Type 1} → statement M
 header-at-unchecked-spec =
     tie.close
     (tie.spec
-    length-of-requires
-    length-ok-requires
+    (λ c κs. search needs)
+    (λ c κs. search needs)
     returns
-    unsigned-abs-requires
+    (λ c κs. search needs)
     cast-n
-    header-with-requires
+    (λ c κs. search needs)
     returns-2)

@@ -5,16 +5,10 @@ use borrow.Author.Needs.{needs}
 use Rattle.header.proofs.length_ok.Statement.{statement}
 use Rattle.header.proofs.length_ok.Tie as tie
 
-is-negative-requires : tie.Need-is-negative-requires
-is-negative-requires c κs = search needs
-
 returns : tie.Need-returns
 returns c =
     let s = c .before .before in
     length-negative (s .args .length) (sym (simp (toZ-ofZ (s .fits .length)) at (c .before .is-negative .ensures)) ∙ c .if1 .taken)
-
-unsigned-abs-requires : tie.Need-unsigned-abs-requires
-unsigned-abs-requires c κs = search needs
 
 returns-2 : tie.Need-returns-2
 returns-2 c =
@@ -23,4 +17,4 @@ returns-2 c =
     rw (simp (toZ-ofZ (s .fits .length)) at (c .unsigned-abs .ensures)) (length-positive (s .args .length) e)
 
 pub length-ok-spec : {M : Type 1} → statement M
-length-ok-spec = tie.close (tie.spec is-negative-requires returns unsigned-abs-requires returns-2)
+length-ok-spec = tie.close (tie.spec (λ c κs. search needs) returns (λ c κs. search needs) returns-2)

@@ -6,14 +6,8 @@ use Rattle.header.proofs.num_by.Tie as tie
 enum-told : tie.Need-enum-told
 enum-told c = search needs
 
-enum-known-tagged : tie.Need-enum-known-tagged
-enum-known-tagged c = search needs
-
 returns : tie.Need-returns
 returns c = rw (c .before .before .tagged .given .1, c .if1 .taken)
-
-plain-or-requires : tie.Need-plain-or-requires
-plain-or-requires c κs = search needs
 
 returns-2 : tie.Need-returns-2
 returns-2 c = let a = c .before .before .args in rw (c .enum-told .given .1) (num-plain (a .flags-smi) (a .plain))
@@ -23,4 +17,4 @@ returns-3 c = rw (c .before .before .before .tagged .given .1, c .before .if1 .l
 
 pub num-by-spec : {M : Type 1} → statement M
 num-by-spec =
-    tie.close (tie.spec enum-told enum-known-tagged returns plain-or-requires returns-2 returns-3)
+    tie.close (tie.spec enum-told (λ c. search needs) returns (λ c κs. search needs) returns-2 returns-3)

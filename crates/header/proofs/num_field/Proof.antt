@@ -9,20 +9,8 @@ use borrow.Author.Needs.{needs}
 use Rattle.header.proofs.num_field.Statement.{statement}
 use Rattle.header.proofs.num_field.Tie as tie
 
-check-at-requires : tie.Need-check-at-requires
-check-at-requires c κs = search needs
-
 enum-told : tie.Need-enum-told
 enum-told c = search needs
-
-object-of-requires : tie.Need-object-of-requires
-object-of-requires c κs = search needs
-
-num-field-unchecked-requires : tie.Need-num-field-unchecked-requires
-num-field-unchecked-requires c κs = search needs
-
-enum-known-refusal : tie.Need-enum-known-refusal
-enum-known-refusal c = search needs
 
 returns : tie.Need-returns
 unfolding numCall
@@ -45,10 +33,10 @@ pub num-field-spec : {M : Type 1} → statement M
 num-field-spec =
     tie.close
     (tie.spec
-    check-at-requires
+    (λ c κs. search needs)
     enum-told
-    object-of-requires
-    num-field-unchecked-requires
-    enum-known-refusal
+    (λ c κs. search needs)
+    (λ c κs. search needs)
+    (λ c. search needs)
     returns
     returns-2)

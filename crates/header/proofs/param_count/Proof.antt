@@ -10,15 +10,6 @@ use mir.Syntax.{w32}
 use Rattle.header.proofs.param_count.Statement.{statement}
 use Rattle.header.proofs.param_count.Tie as tie
 
-signed32-requires : tie.Need-signed32-requires
-signed32-requires c κs = search needs
-
-signed32-requires-2 : tie.Need-signed32-requires-2
-signed32-requires-2 c κs = search needs
-
-eighth-requires : tie.Need-eighth-requires
-eighth-requires c κs = search needs
-
 returns : tie.Need-returns
 returns c = rw (c .before .if1 .taken) (toZ-ofZ (sfits-of {w = w32} (c .signed32 .ok)) ∙ c .signed32 .ensures ∙ toZ-pos w32 (c .before .before .args .size % 65536) (omega arith))
 
@@ -29,4 +20,4 @@ returns-2 c =
 
 pub param-count-spec : {M : Type 1} → statement M
 param-count-spec =
-    tie.close (tie.spec signed32-requires signed32-requires-2 eighth-requires returns returns-2)
+    tie.close (tie.spec (λ c κs. search needs) (λ c κs. search needs) (λ c κs. search needs) returns returns-2)

@@ -6,9 +6,6 @@ use Rattle.header.proofs.plain_or.Tie as tie
 enum-told : tie.Need-enum-told
 enum-told c = search needs
 
-enum-known-plain : tie.Need-enum-known-plain
-enum-known-plain c = search needs
-
 returns : tie.Need-returns
 returns c = rw (c .before .before .plain .given .1, c .if1 .taken)
 
@@ -19,4 +16,4 @@ returns-3 : tie.Need-returns-3
 returns-3 c = rw (c .before .before .plain .given .1, ne-eqb _ _ (c .if1 .left))
 
 pub plain-or-spec : {M : Type 1} → statement M
-plain-or-spec = tie.close (tie.spec enum-told enum-known-plain returns returns-2 returns-3)
+plain-or-spec = tie.close (tie.spec enum-told (λ c. search needs) returns returns-2 returns-3)

@@ -11,11 +11,8 @@ returns c = rw (lt-leb _ _ (c .if1 .taken))
 mul-raw-at-unchecked : tie.Need-mul-raw-at-unchecked
 mul-raw-at-unchecked c = let a = c .before .before .args in omega (arith, under (a .slot) (a .ts) 4294967295 255 (omega arith) (omega arith))
 
-raw-at-unchecked-requires : tie.Need-raw-at-unchecked-requires
-raw-at-unchecked-requires c κs = search needs
-
 returns-2 : tie.Need-returns-2
 returns-2 c = rw (le-leb _ _ (c .before .if1 .left)) (c .raw-at-unchecked .ensures)
 
 pub slot-raw-spec : {M : Type 1} → statement M
-slot-raw-spec = tie.close (tie.spec returns mul-raw-at-unchecked raw-at-unchecked-requires returns-2)
+slot-raw-spec = tie.close (tie.spec returns mul-raw-at-unchecked (λ c κs. search needs) returns-2)

@@ -4,23 +4,11 @@ use borrow.Author.Needs.{needs}
 use Rattle.header.proofs.smi_or_0.Statement.{statement}
 use Rattle.header.proofs.smi_or_0.Tie as tie
 
-enum-known-field : tie.Need-enum-known-field
-enum-known-field c = search needs
-
 enum-told : tie.Need-enum-told
 enum-told c = search needs
 
 returns : tie.Need-returns
 returns c = rw (c .enum-told .given .1)
-
-smi-at-requires : tie.Need-smi-at-requires
-smi-at-requires c κs = search needs
-
-enum-known-v : tie.Need-enum-known-v
-enum-known-v c = search needs
-
-enum-told-2 : tie.Need-enum-told-2
-enum-told-2 c = search needs
 
 returns-2 : tie.Need-returns-2
 returns-2 c = rw (c .before .before .before .before .field .given .1, ← c .before .before .smi-at .ensures, c .enum-told2 .given .1)
@@ -32,11 +20,11 @@ pub smi-or-0-spec : {M : Type 1} → statement M
 smi-or-0-spec =
     tie.close
     (tie.spec
-    enum-known-field
+    (λ c. search needs)
     enum-told
     returns
-    smi-at-requires
-    enum-known-v
-    enum-told-2
+    (λ c κs. search needs)
+    (λ c. search needs)
+    (λ c. search needs)
     returns-2
     returns-3)

@@ -9,20 +9,8 @@ use borrow.Author.Needs.{needs}
 use Rattle.header.proofs.smi_slot.Statement.{statement}
 use Rattle.header.proofs.smi_slot.Tie as tie
 
-check-at-requires : tie.Need-check-at-requires
-check-at-requires c κs = search needs
-
 enum-told : tie.Need-enum-told
 enum-told c = search needs
-
-object-of-requires : tie.Need-object-of-requires
-object-of-requires c κs = search needs
-
-smi-slot-unchecked-requires : tie.Need-smi-slot-unchecked-requires
-smi-slot-unchecked-requires c κs = search needs
-
-enum-known-refusal : tie.Need-enum-known-refusal
-enum-known-refusal c = search needs
 
 returns : tie.Need-returns
 unfolding smiCall
@@ -45,10 +33,10 @@ pub smi-slot-spec : {M : Type 1} → statement M
 smi-slot-spec =
     tie.close
     (tie.spec
-    check-at-requires
+    (λ c κs. search needs)
     enum-told
-    object-of-requires
-    smi-slot-unchecked-requires
-    enum-known-refusal
+    (λ c κs. search needs)
+    (λ c κs. search needs)
+    (λ c. search needs)
     returns
     returns-2)

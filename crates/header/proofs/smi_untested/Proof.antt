@@ -11,30 +11,6 @@ use Rattle.header.proofs.smi_untested.Statement.{statement}
 use Rattle.serializer.specs.declared.Smi.the-variants as smi
 use Rattle.header.proofs.smi_untested.Tie as tie
 
-u64-at-requires : tie.Need-u64-at-requires
-u64-at-requires c κs = search needs
-
-cast-high : tie.Need-cast-high
-cast-high c = search needs
-
-signed32-requires : tie.Need-signed32-requires
-signed32-requires c κs = search needs
-
-wide-requires : tie.Need-wide-requires
-wide-requires c κs = search needs
-
-u32-at-requires : tie.Need-u32-at-requires
-u32-at-requires c κs = search needs
-
-signed32-requires-2 : tie.Need-signed32-requires-2
-signed32-requires-2 c κs = search needs
-
-half-requires : tie.Need-half-requires
-half-requires c κs = search needs
-
-wide-requires-2 : tie.Need-wide-requires-2
-wide-requires-2 c κs = search needs
-
 returns : tie.Need-returns
 returns c =
     let v = toZ-ofZ (sfits-of {w = w64} (c .wide .ok)) ∙ c .wide .ensures ∙ toZ-ofZ (sfits-of {w = w32} (c .before .signed32 .ok)) ∙ c .before .signed32 .ensures in
@@ -53,14 +29,14 @@ pub smi-untested-spec : {M : Type 1} → statement M
 smi-untested-spec =
     tie.close
     (tie.spec
-    u64-at-requires
-    cast-high
-    signed32-requires
-    wide-requires
-    u32-at-requires
-    signed32-requires-2
-    half-requires
-    wide-requires-2
+    (λ c κs. search needs)
+    (λ c. search needs)
+    (λ c κs. search needs)
+    (λ c κs. search needs)
+    (λ c κs. search needs)
+    (λ c κs. search needs)
+    (λ c κs. search needs)
+    (λ c κs. search needs)
     returns
     returns-2
     returns-3)

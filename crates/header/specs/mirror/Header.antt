@@ -4,7 +4,7 @@ use mathlib.Core.List.{List}
 use Rattle.store.specs.declared.Object.{Object}
 use Rattle.serializer.specs.declared.RawAt.{RawAt}
 use Rattle.serializer.specs.mirror.Search.{rawSearched}
-use Rattle.tables.specs.declared.Layout.{Layout}
+use Rattle.layout.specs.declared.Layout.{Layout}
 use Rattle.header.specs.declared.HeaderAnswer.{HeaderAnswer}
 use Rattle.header.specs.Header.{headerBy, rtFor}
 

@@ -8,9 +8,6 @@ use Rattle.jumps.proofs.entry_told.Statement.{statement}
 use Rattle.jumps.specs.declared.EntryAnswer.the-variants as entry-answer
 use Rattle.jumps.proofs.entry_told.Tie as tie
 
-enum-known-entry : tie.Need-enum-known-entry
-enum-known-entry c = search needs
-
 enum-told : tie.Need-enum-told
 enum-told c = search needs
 
@@ -23,4 +20,4 @@ returns-2 : tie.Need-returns-2
 returns-2 c = rw (c .enum-told .given .1)
 
 pub entry-told-spec : {M : Type 1} → statement M
-entry-told-spec = tie.close (tie.spec enum-known-entry enum-told returns returns-2)
+entry-told-spec = tie.close (tie.spec (λ c. search needs) enum-told returns returns-2)

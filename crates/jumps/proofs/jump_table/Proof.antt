@@ -1,7 +1,7 @@
 use mathlib.Core.Path.{sym, ap, _∙_}
 use denote.Ref.{now}
 use Rattle.flow.specs.Opcodes.{opcodesOf}
-use Rattle.tables.specs.declared.Layout.{Layout}
+use Rattle.layout.specs.declared.Layout.{Layout}
 use Rattle.function.specs.Files.{lentFiles}
 use Rattle.jumps.specs.Numbers.{tableNumbers}
 use Rattle.decoder.specs.declared.Decoded.{Decoded}
@@ -15,26 +15,8 @@ use borrow.Author.Needs.{needs}
 use Rattle.jumps.proofs.jump_table.Statement.{statement}
 use Rattle.jumps.proofs.jump_table.Tie as tie
 
-check-lent-requires : tie.Need-check-lent-requires
-check-lent-requires c κs = search needs
-
-enum-known-refusal : tie.Need-enum-known-refusal
-enum-known-refusal c = search needs
-
 enum-told : tie.Need-enum-told
 enum-told c = search needs
-
-layout-of-requires : tie.Need-layout-of-requires
-layout-of-requires c κs = search needs
-
-lent-pool-requires : tie.Need-lent-pool-requires
-lent-pool-requires c κs = search needs
-
-decode-unchecked-requires : tie.Need-decode-unchecked-requires
-decode-unchecked-requires c κs = search needs
-
-table-of-requires : tie.Need-table-of-requires
-table-of-requires c κs = search needs
 
 returns : tie.Need-returns
 unfolding tableCall
@@ -57,12 +39,12 @@ pub jump-table-spec : {M : Type 1} → statement M
 jump-table-spec =
     tie.close
     (tie.spec
-    check-lent-requires
-    enum-known-refusal
+    (λ c κs. search needs)
+    (λ c. search needs)
     enum-told
-    layout-of-requires
-    lent-pool-requires
-    decode-unchecked-requires
-    table-of-requires
+    (λ c κs. search needs)
+    (λ c κs. search needs)
+    (λ c κs. search needs)
+    (λ c κs. search needs)
     returns
     returns-2)

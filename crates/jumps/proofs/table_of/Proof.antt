@@ -6,21 +6,6 @@ use Rattle.jumps.proofs.table_of.Tie as tie
 enum-told : tie.Need-enum-told
 enum-told c = search needs
 
-enum-known-outcome : tie.Need-enum-known-outcome
-enum-known-outcome c = search needs
-
-enum-told-2 : tie.Need-enum-told-2
-enum-told-2 c = search needs
-
-flow-of-requires : tie.Need-flow-of-requires
-flow-of-requires c κs = search needs
-
-jump-table-unchecked-requires : tie.Need-jump-table-unchecked-requires
-jump-table-unchecked-requires c κs = search needs
-
-table-told-requires : tie.Need-table-told-requires
-table-told-requires c κs = search needs
-
 returns : tie.Need-returns
 unfolding tableOf
 returns c = rw (c .enum-told .given .1)
@@ -38,11 +23,11 @@ table-of-spec =
     tie.close
     (tie.spec
     enum-told
-    enum-known-outcome
-    enum-told-2
-    flow-of-requires
-    jump-table-unchecked-requires
-    table-told-requires
+    (λ c. search needs)
+    (λ c. search needs)
+    (λ c κs. search needs)
+    (λ c κs. search needs)
+    (λ c κs. search needs)
     returns
     returns-2
     returns-3)

@@ -2,18 +2,6 @@ use borrow.Author.Needs.{needs}
 use Rattle.jumps.proofs.table_told.Statement.{statement}
 use Rattle.jumps.proofs.table_told.Tie as tie
 
-enum-told : tie.Need-enum-told
-enum-told c = search needs
-
-enum-known-table : tie.Need-enum-known-table
-enum-known-table c = search needs
-
-enum-told-2 : tie.Need-enum-told-2
-enum-told-2 c = search needs
-
-returns : tie.Need-returns
-returns c = search needs
-
 returns-2 : tie.Need-returns-2
 returns-2 c = rw (c .before .table .given .1)
 
@@ -22,4 +10,4 @@ returns-3 c = rw (c .enum-told2 .given .1)
 
 pub table-told-spec : {M : Type 1} → statement M
 table-told-spec =
-    tie.close (tie.spec enum-told enum-known-table enum-told-2 returns returns-2 returns-3)
+    tie.close (tie.spec (λ c. search needs) (λ c. search needs) (λ c. search needs) (λ c. search needs) returns-2 returns-3)

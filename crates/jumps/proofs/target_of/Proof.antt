@@ -6,21 +6,6 @@ use Rattle.jumps.proofs.target_of.Tie as tie
 enum-told : tie.Need-enum-told
 enum-told c = search needs
 
-enum-known-outcome : tie.Need-enum-known-outcome
-enum-known-outcome c = search needs
-
-enum-told-2 : tie.Need-enum-told-2
-enum-told-2 c = search needs
-
-flow-of-requires : tie.Need-flow-of-requires
-flow-of-requires c κs = search needs
-
-jump-target-unchecked-requires : tie.Need-jump-target-unchecked-requires
-jump-target-unchecked-requires c κs = search needs
-
-target-told-requires : tie.Need-target-told-requires
-target-told-requires c κs = search needs
-
 returns : tie.Need-returns
 unfolding targetOf
 returns c = rw (c .enum-told .given .1)
@@ -38,11 +23,11 @@ target-of-spec =
     tie.close
     (tie.spec
     enum-told
-    enum-known-outcome
-    enum-told-2
-    flow-of-requires
-    jump-target-unchecked-requires
-    target-told-requires
+    (λ c. search needs)
+    (λ c. search needs)
+    (λ c κs. search needs)
+    (λ c κs. search needs)
+    (λ c κs. search needs)
     returns
     returns-2
     returns-3)

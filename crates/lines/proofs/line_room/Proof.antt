@@ -7,9 +7,6 @@ use Rattle.lines.proofs.line_room.Tie as tie
 min-requires : tie.Need-min-requires
 min-requires c κs = search needs
 
-size-of-requires : tie.Need-size-of-requires
-size-of-requires c κs = search needs
-
 target-room-requires : tie.Need-target-room-requires
 target-room-requires c κs = search needs
 
@@ -37,35 +34,21 @@ mul-p-2 c = search needs
 add-p-3 : tie.Need-add-p-3
 add-p-3 c = search needs
 
-saturating-add-requires : tie.Need-saturating-add-requires
-saturating-add-requires c κs = search needs
+mul-result : tie.Need-mul-result
+mul-result c = search needs
 
-saturating-add-requires-2 : tie.Need-saturating-add-requires-2
-saturating-add-requires-2 c κs = search needs
-
-saturating-add-requires-3 : tie.Need-saturating-add-requires-3
-saturating-add-requires-3 c κs = search needs
+add-result : tie.Need-add-result
+add-result c = search needs
 
 returns : tie.Need-returns
 unfolding lineRoom
-returns c =
-    omega (
-      arith,
-      c .before .before .before .before .before .before .min .ensures,
-      c .before .before .before .before .before .size-of .ensures,
-      c .before .before .before .before .target-room .ensures,
-      c .before .before .before .entries-of .ensures,
-      c .before .before .saturating-add .ensures,
-      c .before .saturating-add2 .ensures,
-      c .saturating-add3 .ensures,
-    )
+returns c = omega (arith, c .before .before .min .ensures, c .before .target-room .ensures, c .entries-of .ensures)
 
 pub line-room-spec : {M : Type 1} → statement M
 line-room-spec =
     tie.close
     (tie.spec
     min-requires
-    size-of-requires
     target-room-requires
     cast-p
     add-p
@@ -75,7 +58,6 @@ line-room-spec =
     cast-p-2
     mul-p-2
     add-p-3
-    saturating-add-requires
-    saturating-add-requires-2
-    saturating-add-requires-3
+    mul-result
+    add-result
     returns)

@@ -4,12 +4,6 @@ use borrow.Author.Needs.{needs}
 use Rattle.lines.proofs.put_place.Statement.{statement}
 use Rattle.lines.proofs.put_place.Tie as tie
 
-size-of-requires : tie.Need-size-of-requires
-size-of-requires c κs = search needs
-
-lent-requires : tie.Need-lent-requires
-lent-requires c κs = search needs
-
 slice-aggregate-put-bytes : tie.Need-slice-aggregate-put-bytes
 slice-aggregate-put-bytes c = search needs
 
@@ -36,17 +30,14 @@ same-length c = search needs
 
 returns : tie.Need-returns
 returns c =
-    let h = c .before .before .before .before .before .before .before .before .before .before .before .before .before .before .before .before .before .before .before .before .before .before .before .before .before .before .good in
-    rw (← c .before .before .before .before .before .before .before .before .before .before .before .before .before .before .before .before .before .before .before .before .before .before .before .size-of .ensures, ← c .before .before .before .before .before .before .before .before .before .before .before .before .before .before .before .before .before .before .before .before .before .before .lent .ensures)
-    (then (omega (arith, h)) (then (omega (arith, h)) (then (omega (arith, h)) (then (omega (arith, h))
-    (c .before .before .before .before .before .before .before .before .before .before .before .before .before .before .before .before .before .before .before .put-bytes .ensures) (c .before .before .before .before .before .before .before .before .before .before .before .before .before .before .before .put-decimal-padded .ensures)) (c .before .before .before .before .before .before .before .before .before .before .put-bytes2 .ensures)) (c .before .before .before .before .before .before .put-hex-padded .ensures)) (c .before .before .put-byte .ensures))
+    let h = c .before .before .before .before .before .before .before .before .before .before .before .before .before .before .before .before .before .before .before .before .before .before .before .before .good in
+    then (omega (arith, h)) (then (omega (arith, h)) (then (omega (arith, h)) (then (omega (arith, h))
+    (c .before .before .before .before .before .before .before .before .before .before .before .before .before .before .before .before .before .before .before .put-bytes .ensures) (c .before .before .before .before .before .before .before .before .before .before .before .before .before .before .before .put-decimal-padded .ensures)) (c .before .before .before .before .before .before .before .before .before .before .put-bytes2 .ensures)) (c .before .before .before .before .before .before .put-hex-padded .ensures)) (c .before .before .put-byte .ensures)
 
 pub put-place-spec : {M : Type 1} → statement M
 put-place-spec =
     tie.close
     (tie.spec
-    size-of-requires
-    lent-requires
     slice-aggregate-put-bytes
     put-bytes-requires
     put-decimal-padded-requires

@@ -36,16 +36,16 @@ put-bytes-requires-2 : tie.Need-put-bytes-requires-2
 put-bytes-requires-2 c κs = search needs
 
 returns : tie.Need-returns
-returns c = rw (c .before .enum-told .given .1) (record { text = refl; end = c .saturating-add .ensures })
+returns c = λ b. rw (c .before .enum-told .given .1) (record { text = refl; end = c .saturating-add .ensures })
 
 returns-2 : tie.Need-returns-2
-returns-2 c = rw (c .before .enum-told2 .given .1) (record { text = refl; end = c .saturating-add2 .ensures })
+returns-2 c = λ b. rw (c .before .enum-told2 .given .1) (record { text = refl; end = c .saturating-add2 .ensures })
 
 same-length : tie.Need-same-length
 same-length c = search needs
 
 returns-3 : tie.Need-returns-3
-returns-3 c = let h = c .before .before .before .before .before .before .before .before .before .before .before .before .before .before .before .before .before .before .before .before .good in rw (c .before .before .before .before .before .before .before .before .before .before .before .before .before .before .before .table .given .1) (then (omega (arith, h)) (then (omega (arith, h)) (c .before .before .before .before .before .before .before .before .before .before .before .put-bytes .ensures) (c .before .before .before .before .before .before .before .put-entries .ensures)) (c .before .before .put-bytes2 .ensures))
+returns-3 c = λ b. let h = c .before .before .before .before .before .before .before .before .before .before .before .before .before .before .before .before .before .before .before .before .before .good in rw (c .before .before .before .before .before .before .before .before .before .before .before .before .before .before .before .table .given .1) (then (omega (arith, h)) (then (omega (arith, h)) (c .before .before .before .before .before .before .before .before .before .before .before .put-bytes .ensures) (c .before .before .before .before .before .before .before .put-entries .ensures b)) (c .before .before .put-bytes2 .ensures))
 
 pub put-table-spec : {M : Type 1} → statement M
 put-table-spec =

@@ -8,29 +8,14 @@ use borrow.Author.Needs.{needs}
 use Rattle.program.proofs.list_limited.Statement.{statement}
 use Rattle.program.proofs.list_limited.Tie as tie
 
-within-limit-requires : tie.Need-within-limit-requires
-within-limit-requires c κs = search needs
-
-list-requires : tie.Need-list-requires
-list-requires c κs = search needs
-
-same-length : tie.Need-same-length
-same-length c = search needs
-
 returns : tie.Need-returns
 returns c =
     let a = c .before .before .before .before .before .before .before .before .before .before .before .before .before .before .before .args in
     let f : Files = record { opcodes = now (a .opcodes); types = now (a .types); runtime = now (a .runtime); intrinsic = now (a .intrinsic); layout = now (a .layout); objects = now (a .objects); slots = now (a .slots); payload = now (a .payload) } in
     rw (within f (now (a .out)) (sym (c .before .before .before .before .before .within-limit .ensures) ∙ c .before .before .before .before .if1 .taken)) (written-by (c .before .before .list .ensures))
 
-check-table-requires : tie.Need-check-table-requires
-check-table-requires c κs = search needs
-
 enum-told : tie.Need-enum-told
 enum-told c = search needs
-
-enum-known-r : tie.Need-enum-known-r
-enum-known-r c = search needs
 
 returns-2 : tie.Need-returns-2
 unfolding limited
@@ -44,12 +29,12 @@ pub list-limited-spec : {M : Type 1} → statement M
 list-limited-spec =
     tie.close
     (tie.spec
-    within-limit-requires
-    list-requires
-    same-length
+    (λ c κs. search needs)
+    (λ c κs. search needs)
+    (λ c. search needs)
     returns
-    check-table-requires
+    (λ c κs. search needs)
     enum-told
-    enum-known-r
+    (λ c. search needs)
     returns-2
     returns-3)

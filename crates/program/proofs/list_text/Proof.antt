@@ -6,18 +6,6 @@ use borrow.Author.Needs.{needs}
 use Rattle.program.proofs.list_text.Statement.{statement}
 use Rattle.program.proofs.list_text.Tie as tie
 
-list-limited-requires : tie.Need-list-limited-requires
-list-limited-requires c κs = search needs
-
-enum-known-listed : tie.Need-enum-known-listed
-enum-known-listed c = search needs
-
-enum-known-listed-2 : tie.Need-enum-known-listed-2
-enum-known-listed-2 c = search needs
-
-put-refusal-requires : tie.Need-put-refusal-requires
-put-refusal-requires c κs = search needs
-
 returns : tie.Need-returns
 returns c =
     let a = c .before .before .before .before .before .before .before .before .before .before .before .before .before .args in
@@ -36,9 +24,9 @@ pub list-text-spec : {M : Type 1} → statement M
 list-text-spec =
     tie.close
     (tie.spec
-    list-limited-requires
-    enum-known-listed
-    enum-known-listed-2
-    put-refusal-requires
+    (λ c κs. search needs)
+    (λ c. search needs)
+    (λ c. search needs)
+    (λ c κs. search needs)
     returns
     returns-2)

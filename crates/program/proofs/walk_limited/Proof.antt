@@ -10,29 +10,14 @@ use borrow.Author.Needs.{needs}
 use Rattle.program.proofs.walk_limited.Statement.{statement}
 use Rattle.program.proofs.walk_limited.Tie as tie
 
-within-limit-requires : tie.Need-within-limit-requires
-within-limit-requires c κs = search needs
-
-walk-requires : tie.Need-walk-requires
-walk-requires c κs = search needs
-
-same-length : tie.Need-same-length
-same-length c = search needs
-
 returns : tie.Need-returns
 returns c =
     let a = c .before .before .before .before .before .before .before .before .before .before .before .before .before .before .before .args in
     let f : Files = record { opcodes = now (a .opcodes); types = now (a .types); runtime = now (a .runtime); intrinsic = now (a .intrinsic); layout = now (a .layout); objects = now (a .objects); slots = now (a .slots); payload = now (a .payload) } in
     walked-numbers-one _ _ (c .before .before .walk .ensures .0 .0) ∙ sym (ap (λ (x : Walked × List ℕ). x .0) (walk-within f (now (a .marks)) (sym (c .before .before .before .before .before .within-limit .ensures) ∙ c .before .before .before .before .if1 .taken))) ∙ walk-blind f (now (a .marks)) _ refl
 
-check-table-requires : tie.Need-check-table-requires
-check-table-requires c κs = search needs
-
 enum-told : tie.Need-enum-told
 enum-told c = search needs
-
-enum-known-r : tie.Need-enum-known-r
-enum-known-r c = search needs
 
 returns-2 : tie.Need-returns-2
 returns-2 c =
@@ -50,12 +35,12 @@ pub walk-limited-spec : {M : Type 1} → statement M
 walk-limited-spec =
     tie.close
     (tie.spec
-    within-limit-requires
-    walk-requires
-    same-length
+    (λ c κs. search needs)
+    (λ c κs. search needs)
+    (λ c. search needs)
     returns
-    check-table-requires
+    (λ c κs. search needs)
     enum-told
-    enum-known-r
+    (λ c. search needs)
     returns-2
     returns-3)

@@ -6,12 +6,6 @@ use borrow.Author.Needs.{needs}
 use Rattle.program.proofs.walk_text.Statement.{statement}
 use Rattle.program.proofs.walk_text.Tie as tie
 
-walk-marked-requires : tie.Need-walk-marked-requires
-walk-marked-requires c κs = search needs
-
-put-walked-requires : tie.Need-put-walked-requires
-put-walked-requires c κs = search needs
-
 returns : tie.Need-returns
 returns c =
     let a = c .before .before .before .before .before .before .before .before .before .before .before .args in
@@ -19,4 +13,4 @@ returns c =
     walk-printed-promised f (now (a .out)) (omega (arith, c .before .before .before .before .before .before .before .before .before .before .before .good)) (c .before .before .walk-marked .result) (c .before .before .walk-marked .ensures) (c .put-walked .ensures)
 
 pub walk-text-spec : {M : Type 1} → statement M
-walk-text-spec = tie.close (tie.spec walk-marked-requires put-walked-requires returns)
+walk-text-spec = tie.close (tie.spec (λ c κs. search needs) (λ c κs. search needs) returns)

@@ -4,12 +4,6 @@ use borrow.Author.Needs.{needs}
 use Rattle.reader.proofs.next_at.Statement.{statement}
 use Rattle.reader.proofs.next_at.Tie as tie
 
-slot-count-requires : tie.Need-slot-count-requires
-slot-count-requires c κs = search needs
-
-add-result : tie.Need-add-result
-add-result c = search needs
-
 returns : tie.Need-returns
 unfolding nextAt
 returns c = rw (← c .before .slot-count .ensures, lt-ltb _ _ (c .if1 .taken))
@@ -19,4 +13,4 @@ unfolding nextAt
 returns-2 c = rw (← c .before .slot-count .ensures, le-ltb _ _ (c .if1 .left))
 
 pub next-at-spec : {M : Type 1} → statement M
-next-at-spec = tie.close (tie.spec slot-count-requires add-result returns returns-2)
+next-at-spec = tie.close (tie.spec (λ c κs. search needs) (λ c. search needs) returns returns-2)

@@ -4,12 +4,6 @@ use borrow.Author.Needs.{needs}
 use Rattle.reader.proofs.read_at.Statement.{statement}
 use Rattle.reader.proofs.read_at.Tie as tie
 
-slot-count-requires : tie.Need-slot-count-requires
-slot-count-requires c κs = search needs
-
-slot-of-requires : tie.Need-slot-of-requires
-slot-of-requires c κs = search needs
-
 returns : tie.Need-returns
 unfolding readAt
 returns c = rw (← c .before .before .slot-count .ensures, lt-ltb _ _ (c .before .if1 .taken), c .slot-of .ensures)
@@ -19,4 +13,4 @@ unfolding readAt
 returns-2 c = rw (← c .before .slot-count .ensures, le-ltb _ _ (c .if1 .left))
 
 pub read-at-spec : {M : Type 1} → statement M
-read-at-spec = tie.close (tie.spec slot-count-requires slot-of-requires returns returns-2)
+read-at-spec = tie.close (tie.spec (λ c κs. search needs) (λ c κs. search needs) returns returns-2)

@@ -9,24 +9,6 @@ use borrow.Author.Needs.{sfits-of, needs}
 use Rattle.registers.proofs.with_operand.Statement.{statement}
 use Rattle.registers.proofs.with_operand.Tie as tie
 
-enum-known-operand : tie.Need-enum-known-operand
-enum-known-operand c = search needs
-
-with-register-requires : tie.Need-with-register-requires
-with-register-requires c κs = search needs
-
-enum-known-operand-2 : tie.Need-enum-known-operand-2
-enum-known-operand-2 c = search needs
-
-with-register-requires-2 : tie.Need-with-register-requires-2
-with-register-requires-2 c κs = search needs
-
-list-last-requires : tie.Need-list-last-requires
-list-last-requires c κs = search needs
-
-with-register-requires-3 : tie.Need-with-register-requires-3
-with-register-requires-3 c κs = search needs
-
 returns : tie.Need-returns
 returns c = rw (c .before .before .operand .given .1) (c .with-register .ensures ∙ ap (withRegister (c .before .before .before .before .args .best)) (toZ-ofZ {w = w32} {z = c .before .before .operand .given .0 .0} (record { sfits = c .before .known-told .given .0 .1 })))
 
@@ -45,12 +27,12 @@ pub with-operand-spec : {M : Type 1} → statement M
 with-operand-spec =
     tie.close
     (tie.spec
-    enum-known-operand
-    with-register-requires
-    enum-known-operand-2
-    with-register-requires-2
-    list-last-requires
-    with-register-requires-3
+    (λ c. search needs)
+    (λ c κs. search needs)
+    (λ c. search needs)
+    (λ c κs. search needs)
+    (λ c κs. search needs)
+    (λ c κs. search needs)
     returns
     returns-2
     returns-3

@@ -5,20 +5,8 @@ use borrow.Author.Needs.{sfits-of, needs}
 use Rattle.registers.proofs.with_register.Statement.{statement}
 use Rattle.registers.proofs.with_register.Tie as tie
 
-wide-requires : tie.Need-wide-requires
-wide-requires c κs = search needs
-
-is-negative-requires : tie.Need-is-negative-requires
-is-negative-requires c κs = search needs
-
 returns : tie.Need-returns
 returns c = below (c .before .before .before .args .best) (c .before .before .before .args .index) (sym (c .if1 .taken) ∙ sign (c .before .before .before .args .index) (c .before .before .wide .result) (c .before .before .before .fits .index) (sfits-of {w = w64} (c .before .before .wide .ok)) (c .before .before .wide .ensures) (c .before .is-negative .ensures))
-
-bits32-requires : tie.Need-bits32-requires
-bits32-requires c κs = search needs
-
-enum-known-best : tie.Need-enum-known-best
-enum-known-best c = search needs
 
 enum-told : tie.Need-enum-told
 enum-told c = search needs
@@ -42,11 +30,11 @@ pub with-register-spec : {M : Type 1} → statement M
 with-register-spec =
     tie.close
     (tie.spec
-    wide-requires
-    is-negative-requires
+    (λ c κs. search needs)
+    (λ c κs. search needs)
     returns
-    bits32-requires
-    enum-known-best
+    (λ c κs. search needs)
+    (λ c. search needs)
     enum-told
     returns-2
     returns-3

@@ -1,3 +1,5 @@
+use Rattle.graph.proofs.Queues.{zero-at}
+use native.Mathlib.Omega.{arith}
 use Rattle.walk.proofs.Laws.{room-of}
 use borrow.Author.Needs.{needs}
 use Rattle.walk.proofs.walk_long.Statement.{statement}
@@ -9,8 +11,13 @@ slice-aggregate-walk-in c = search needs
 slice-aggregate-walk-in-2 : tie.Need-slice-aggregate-walk-in-2
 slice-aggregate-walk-in-2 c = search needs
 
+slice-aggregate-walk-in-3 : tie.Need-slice-aggregate-walk-in-3
+slice-aggregate-walk-in-3 c = search needs
+
 walk-in-requires : tie.Need-walk-in-requires
-walk-in-requires c κs = (c .before .before .before .before .before .before .before .before .before .before .pre .0, room-of _ _ 65536 (c .before .before .before .before .before .before .before .before .before .before .pre .0) (search needs), room-of _ _ 65536 (c .before .before .before .before .before .before .before .before .before .before .pre .0) (search needs), c .before .before .before .before .before .before .before .before .before .before .pre .1)
+walk-in-requires c κs =
+    let p = c .before .before .before .before .before .before .before .before .before .before .before .pre in
+    (p .0, room-of _ _ 65536 (p .0) (search needs), room-of _ _ 65536 (p .0) (search needs), room-of _ _ 65536 (p .0) (search needs), zero-at 65536, p .1)
 
 same-length : tie.Need-same-length
 same-length c = search needs
@@ -24,6 +31,7 @@ walk-long-spec =
     (tie.spec
     slice-aggregate-walk-in
     slice-aggregate-walk-in-2
+    slice-aggregate-walk-in-3
     walk-in-requires
     same-length
     returns)

@@ -10,12 +10,6 @@ slice-aggregate-result : tie.Need-slice-aggregate-result
 slice-aggregate-result c = sym (length-take-le _ _ (omega (arith, c .before .if1 .taken)))
 
 -- src/walks.rt:47:9
-returns : tie.Need-returns
-returns c = search needs
-
 -- src/walks.rt:45:1
-returns-2 : tie.Need-returns-2
-returns-2 c = search needs
-
 pub first-spec : {M : Type 1} → statement M
-first-spec = tie.close (tie.spec slice-aggregate-result returns returns-2)
+first-spec = tie.close (tie.spec slice-aggregate-result (λ c. search needs) (λ c. search needs))

@@ -12,9 +12,6 @@ returns-2 : tie.Need-returns-2
 unfolding fieldsOk
 returns-2 c = rw (eq-eqb _ _ (c .before .if1 .taken), lt-ltb _ _ (c .if2 .left))
 
-add-result : tie.Need-add-result
-add-result c = search needs
-
 returns-3 : tie.Need-returns-3
 unfolding fieldsOk
 returns-3 c = rw (ne-eqb _ _ (c .before .if1 .left), eq-eqb _ _ (c .if3 .taken))
@@ -33,4 +30,4 @@ returns-6 c = rw (ne-eqb _ _ (c .before .before .before .if1 .left), ne-eqb _ _ 
 
 pub fields-ok-spec : {M : Type 1} → statement M
 fields-ok-spec =
-    tie.close (tie.spec returns returns-2 add-result returns-3 returns-4 returns-5 returns-6)
+    tie.close (tie.spec returns returns-2 (λ c. search needs) returns-3 returns-4 returns-5 returns-6)

@@ -8,9 +8,6 @@ returns : tie.Need-returns
 unfolding valueOk
 returns c = rw (eq-eqb _ _ (c .before .if1 .taken), lt-leb _ _ (c .if2 .taken))
 
-fields-ok-requires : tie.Need-fields-ok-requires
-fields-ok-requires c κs = search needs
-
 returns-2 : tie.Need-returns-2
 unfolding valueOk
 returns-2 c = rw (eq-eqb _ _ (c .before .before .if1 .taken), le-leb _ _ (c .before .if2 .left)) (c .fields-ok .ensures)
@@ -23,9 +20,6 @@ returns-4 : tie.Need-returns-4
 unfolding valueOk
 returns-4 c = rw (ne-eqb _ _ (c .before .before .if1 .left), eq-eqb _ _ (c .before .if3 .left), ne-eqb _ _ (c .if4 .taken))
 
-fields-ok-requires-2 : tie.Need-fields-ok-requires-2
-fields-ok-requires-2 c κs = search needs
-
 returns-5 : tie.Need-returns-5
 unfolding valueOk
 returns-5 c = rw (ne-eqb _ _ (c .before .before .before .if1 .left), eq-eqb _ _ (c .before .before .if3 .left), eq-eqb _ _ (c .before .if4 .left)) (c .fields-ok2 .ensures)
@@ -35,9 +29,9 @@ value-ok-spec =
     tie.close
     (tie.spec
     returns
-    fields-ok-requires
+    (λ c κs. search needs)
     returns-2
     returns-3
     returns-4
-    fields-ok-requires-2
+    (λ c κs. search needs)
     returns-5)

@@ -9,18 +9,6 @@ use borrow.Author.Needs.{needs}
 use Rattle.store.proofs.order.fall_by_parts.Statement.{statement}
 use Rattle.store.proofs.order.fall_by_parts.Tie as tie
 
-add-part : tie.Need-add-part
-add-part c = search needs
-
-mul-least : tie.Need-mul-least
-mul-least c = search needs
-
-least-requires : tie.Need-least-requires
-least-requires c κs = search needs
-
-first-fall-in-requires : tie.Need-first-fall-in-requires
-first-fall-in-requires c κs = search needs
-
 returns : tie.Need-returns
 returns c =
     let a = c .before .before .before .before .before .args in
@@ -30,18 +18,6 @@ returns-2 : tie.Need-returns-2
 returns-2 c =
     let a = c .before .before .before .before .before .before .args in
     fall-edge (now (a .slots)) (a .first) (a .count) (a .end) (c .before .before .first-fall-in .ensures) (omega arith) (omega arith)
-
-mul-wide : tie.Need-mul-wide
-mul-wide c = search needs
-
-shared-slice-read-wide : tie.Need-shared-slice-read-wide
-shared-slice-read-wide c = search needs
-
-wide-requires : tie.Need-wide-requires
-wide-requires c κs = search needs
-
-add-if3 : tie.Need-add-if3
-add-if3 c = search needs
 
 -- what is written down of the part is the first lower index from its start on
 found : (c : tie.After-wide)
@@ -66,15 +42,15 @@ pub fall-by-parts-spec : {M : Type 1} → statement M
 fall-by-parts-spec =
     tie.close
     (tie.spec
-    add-part
-    mul-least
-    least-requires
-    first-fall-in-requires
+    (λ c. search needs)
+    (λ c. search needs)
+    (λ c κs. search needs)
+    (λ c κs. search needs)
     returns
     returns-2
-    mul-wide
-    shared-slice-read-wide
-    wide-requires
-    add-if3
+    (λ c. search needs)
+    (λ c. search needs)
+    (λ c κs. search needs)
+    (λ c. search needs)
     returns-3
     returns-4)

@@ -6,36 +6,6 @@ use borrow.Author.Needs.{needs}
 use Rattle.store.proofs.records.object_of.Statement.{statement}
 use Rattle.store.proofs.records.object_of.Tie as tie
 
-object-place-requires : tie.Need-object-place-requires
-object-place-requires c κs = search needs
-
-add-byte-at : tie.Need-add-byte-at
-add-byte-at c = search needs
-
-byte-at-requires : tie.Need-byte-at-requires
-byte-at-requires c κs = search needs
-
-byte-at-requires-2 : tie.Need-byte-at-requires-2
-byte-at-requires-2 c κs = search needs
-
-add-u32-at : tie.Need-add-u32-at
-add-u32-at c = search needs
-
-u32-at-requires : tie.Need-u32-at-requires
-u32-at-requires c κs = search needs
-
-add-u32-at-2 : tie.Need-add-u32-at-2
-add-u32-at-2 c = search needs
-
-u32-at-requires-2 : tie.Need-u32-at-requires-2
-u32-at-requires-2 c κs = search needs
-
-add-u32-at-3 : tie.Need-add-u32-at-3
-add-u32-at-3 c = search needs
-
-u32-at-requires-3 : tie.Need-u32-at-requires-3
-u32-at-requires-3 c κs = search needs
-
 returns : tie.Need-returns
 unfolding objectOf
 returns c =
@@ -48,14 +18,14 @@ pub object-of-spec : {M : Type 1} → statement M
 object-of-spec =
     tie.close
     (tie.spec
-    object-place-requires
-    add-byte-at
-    byte-at-requires
-    byte-at-requires-2
-    add-u32-at
-    u32-at-requires
-    add-u32-at-2
-    u32-at-requires-2
-    add-u32-at-3
-    u32-at-requires-3
+    (λ c κs. search needs)
+    (λ c. search needs)
+    (λ c κs. search needs)
+    (λ c κs. search needs)
+    (λ c. search needs)
+    (λ c κs. search needs)
+    (λ c. search needs)
+    (λ c κs. search needs)
+    (λ c. search needs)
+    (λ c κs. search needs)
     returns)

@@ -7,12 +7,6 @@ use borrow.Author.Needs.{needs}
 use Rattle.store.proofs.records.slot_index.Statement.{statement}
 use Rattle.store.proofs.records.slot_index.Tie as tie
 
-slot-place-requires : tie.Need-slot-place-requires
-slot-place-requires c κs = search needs
-
-u32-at-requires : tie.Need-u32-at-requires
-u32-at-requires c κs = search needs
-
 returns : tie.Need-returns
 unfolding slotOf
 returns c =
@@ -20,4 +14,4 @@ returns c =
     c .u32-at .ensures ∙ le-here (now (a .slots)) (24 * a .i) (c .before .slot-place .ensures) 4
 
 pub slot-index-spec : {M : Type 1} → statement M
-slot-index-spec = tie.close (tie.spec slot-place-requires u32-at-requires returns)
+slot-index-spec = tie.close (tie.spec (λ c κs. search needs) (λ c κs. search needs) returns)

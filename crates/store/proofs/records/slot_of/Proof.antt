@@ -6,45 +6,6 @@ use borrow.Author.Needs.{needs}
 use Rattle.store.proofs.records.slot_of.Statement.{statement}
 use Rattle.store.proofs.records.slot_of.Tie as tie
 
-slot-place-requires : tie.Need-slot-place-requires
-slot-place-requires c κs = search needs
-
-add-byte-at : tie.Need-add-byte-at
-add-byte-at c = search needs
-
-byte-at-requires : tie.Need-byte-at-requires
-byte-at-requires c κs = search needs
-
-add-byte-at-2 : tie.Need-add-byte-at-2
-add-byte-at-2 c = search needs
-
-byte-at-requires-2 : tie.Need-byte-at-requires-2
-byte-at-requires-2 c κs = search needs
-
-add-u32-at : tie.Need-add-u32-at
-add-u32-at c = search needs
-
-u32-at-requires : tie.Need-u32-at-requires
-u32-at-requires c κs = search needs
-
-add-u32-at-2 : tie.Need-add-u32-at-2
-add-u32-at-2 c = search needs
-
-u32-at-requires-2 : tie.Need-u32-at-requires-2
-u32-at-requires-2 c κs = search needs
-
-add-u32-at-3 : tie.Need-add-u32-at-3
-add-u32-at-3 c = search needs
-
-u32-at-requires-3 : tie.Need-u32-at-requires-3
-u32-at-requires-3 c κs = search needs
-
-value-of-requires : tie.Need-value-of-requires
-value-of-requires c κs = search needs
-
-u32-at-requires-4 : tie.Need-u32-at-requires-4
-u32-at-requires-4 c κs = search needs
-
 returns : tie.Need-returns
 unfolding slotOf
 returns c =
@@ -57,17 +18,17 @@ pub slot-of-spec : {M : Type 1} → statement M
 slot-of-spec =
     tie.close
     (tie.spec
-    slot-place-requires
-    add-byte-at
-    byte-at-requires
-    add-byte-at-2
-    byte-at-requires-2
-    add-u32-at
-    u32-at-requires
-    add-u32-at-2
-    u32-at-requires-2
-    add-u32-at-3
-    u32-at-requires-3
-    value-of-requires
-    u32-at-requires-4
+    (λ c κs. search needs)
+    (λ c. search needs)
+    (λ c κs. search needs)
+    (λ c. search needs)
+    (λ c κs. search needs)
+    (λ c. search needs)
+    (λ c κs. search needs)
+    (λ c. search needs)
+    (λ c κs. search needs)
+    (λ c. search needs)
+    (λ c κs. search needs)
+    (λ c κs. search needs)
+    (λ c κs. search needs)
     returns)

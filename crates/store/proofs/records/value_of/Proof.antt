@@ -3,9 +3,6 @@ use borrow.Author.Needs.{needs}
 use Rattle.store.proofs.records.value_of.Statement.{statement}
 use Rattle.store.proofs.records.value_of.Tie as tie
 
-inner-of-requires : tie.Need-inner-of-requires
-inner-of-requires c κs = search needs
-
 returns : tie.Need-returns
 returns c = rw (c .match .keys1)
 
@@ -27,4 +24,4 @@ returns-6 c = let k = c .before .args .kind in rw (ne-eqb k 1 (c .match .rest .0
 pub value-of-spec : {M : Type 1} → statement M
 value-of-spec =
     tie.close
-    (tie.spec inner-of-requires returns returns-2 returns-3 returns-4 returns-5 returns-6)
+    (tie.spec (λ c κs. search needs) returns returns-2 returns-3 returns-4 returns-5 returns-6)

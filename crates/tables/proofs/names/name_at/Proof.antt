@@ -10,15 +10,6 @@ use borrow.Author.Needs.{needs}
 use Rattle.tables.proofs.names.name_at.Statement.{statement}
 use Rattle.tables.proofs.names.name_at.Tie as tie
 
-sub-result : tie.Need-sub-result
-sub-result c = search needs
-
-part-result-start : tie.Need-part-result-start
-part-result-start c = search needs
-
-part-result-end : tie.Need-part-result-end
-part-result-end c = search needs
-
 -- the first zero, as `zero_from` finds it
 found : (c : tie.After-zero-from) → c .zero-from .result ≡ firstFrom (isZero (now (c .before .before .before .args .s))) (c .before .before .before .args .at) (c .before .before .before .args .w)
 found c =
@@ -28,12 +19,6 @@ found c =
 
 returns : tie.Need-returns
 returns c = name-none (now (c .before .before .before .args .s)) (c .before .before .before .args .at) (c .before .before .before .args .w) (c .before .if1 .taken)
-
-add-to : tie.Need-add-to
-add-to c = search needs
-
-zero-from-requires : tie.Need-zero-from-requires
-zero-from-requires c κs = search needs
 
 sub-result-2 : tie.Need-sub-result-2
 sub-result-2 c = omega (arith, found c, zero-low (now (c .before .before .before .args .s)) (c .before .before .before .args .at) (c .before .before .before .args .w))
@@ -52,12 +37,12 @@ pub name-at-spec : {M : Type 1} → statement M
 name-at-spec =
     tie.close
     (tie.spec
-    sub-result
-    part-result-start
-    part-result-end
+    (λ c. search needs)
+    (λ c. search needs)
+    (λ c. search needs)
     returns
-    add-to
-    zero-from-requires
+    (λ c. search needs)
+    (λ c κs. search needs)
     sub-result-2
     part-result-start-2
     part-result-end-2

@@ -1,9 +1,7 @@
 -- Row k of the names is name k, filled up.
-use Prim.Native.Nat.{_<_}
 use mathlib.Core.Path.{_∙_}
 use native.Mathlib.Omega.{arith}
 use denote.Ref.{now}
-use lib.ListN.{length}
 use Rattle.tables.specs.Records.{typeNames, typeNameSize}
 use Rattle.tables.proofs.Rows.{row-named, row-room}
 use borrow.Author.Needs.{needs}

@@ -7,9 +7,6 @@ use borrow.Author.Needs.{needs}
 use Rattle.tables.proofs.records.name_fits.Statement.{statement}
 use Rattle.tables.proofs.records.name_fits.Tie as tie
 
-mul-at : tie.Need-mul-at
-mul-at c = search needs
-
 has-type-name-requires : tie.Need-has-type-name-requires
 has-type-name-requires c κs = (c .if1 .taken, c .before .before .before .pre .1)
 
@@ -28,7 +25,7 @@ pub name-fits-spec : {M : Type 1} → statement M
 name-fits-spec =
     tie.close
     (tie.spec
-    mul-at
+    (λ c. search needs)
     has-type-name-requires
     type-name-of-requires
     returns

@@ -4,9 +4,6 @@ use borrow.Author.Needs.{needs}
 use Rattle.tables.proofs.records.size_fits.Statement.{statement}
 use Rattle.tables.proofs.records.size_fits.Tie as tie
 
-size-good-requires : tie.Need-size-good-requires
-size-good-requires c κs = search needs
-
 returns : tie.Need-returns
 unfolding sizeFits
 returns c = rw (eq-eqb _ _ (c .before .if1 .taken), eq-eqb _ _ (c .if2 .taken))
@@ -24,4 +21,4 @@ unfolding sizeFits
 returns-4 c = rw (ne-eqb _ _ (c .before .if1 .left), ne-eqb _ _ (c .if3 .left))
 
 pub size-fits-spec : {M : Type 1} → statement M
-size-fits-spec = tie.close (tie.spec size-good-requires returns returns-2 returns-3 returns-4)
+size-fits-spec = tie.close (tie.spec (λ c κs. search needs) returns returns-2 returns-3 returns-4)

@@ -2,9 +2,6 @@ use borrow.Author.Needs.{needs}
 use Rattle.tables.proofs.records.type_fault.Statement.{statement}
 use Rattle.tables.proofs.records.type_fault.Tie as tie
 
-type-ok-requires : tie.Need-type-ok-requires
-type-ok-requires c κs = search needs
-
 returns : tie.Need-returns
 returns c = rw (← c .before .type-ok .ensures, c .if1 .taken)
 
@@ -12,4 +9,4 @@ returns-2 : tie.Need-returns-2
 returns-2 c = rw (← c .before .type-ok .ensures, c .if1 .left)
 
 pub type-fault-spec : {M : Type 1} → statement M
-type-fault-spec = tie.close (tie.spec type-ok-requires returns returns-2)
+type-fault-spec = tie.close (tie.spec (λ c κs. search needs) returns returns-2)

@@ -7,45 +7,12 @@ use borrow.Author.Needs.{needs}
 use Rattle.tables.proofs.records.type_width.Statement.{statement}
 use Rattle.tables.proofs.records.type_width.Tie as tie
 
-mul-at : tie.Need-mul-at
-mul-at c = search needs
-
-add-byte-at : tie.Need-add-byte-at
-add-byte-at c = search needs
-
-byte-at-requires : tie.Need-byte-at-requires
-byte-at-requires c κs = search needs
-
-at-most-8-requires : tie.Need-at-most-8-requires
-at-most-8-requires c κs = search needs
-
 returns : tie.Need-returns
 unfolding width
 returns c = c .at-most-8 .ensures ∙ sym (rw (ne-eqb _ _ (λ e. c .before .if1 .taken (c .before .before .byte-at .ensures ∙ e))))
 
-add-byte-at-2 : tie.Need-add-byte-at-2
-add-byte-at-2 c = search needs
-
-byte-at-requires-2 : tie.Need-byte-at-requires-2
-byte-at-requires-2 c κs = search needs
-
-cast-size : tie.Need-cast-size
-cast-size c = search needs
-
-add-byte-at-3 : tie.Need-add-byte-at-3
-add-byte-at-3 c = search needs
-
-byte-at-requires-3 : tie.Need-byte-at-requires-3
-byte-at-requires-3 c κs = search needs
-
 mul-at-most-8 : tie.Need-mul-at-most-8
 mul-at-most-8 c = omega (arith, mul-le-mul-right (c .before .before .before .before .before .before .args .scale) (le-pred-of-lt (c .before .before .byte-at2 .ok)))
-
-at-most-8-requires-2 : tie.Need-at-most-8-requires-2
-at-most-8-requires-2 c κs = search needs
-
-at-most-8-requires-3 : tie.Need-at-most-8-requires-3
-at-most-8-requires-3 c κs = search needs
 
 returns-2 : tie.Need-returns-2
 unfolding width
@@ -59,18 +26,18 @@ pub type-width-spec : {M : Type 1} → statement M
 type-width-spec =
     tie.close
     (tie.spec
-    mul-at
-    add-byte-at
-    byte-at-requires
-    at-most-8-requires
+    (λ c. search needs)
+    (λ c. search needs)
+    (λ c κs. search needs)
+    (λ c κs. search needs)
     returns
-    add-byte-at-2
-    byte-at-requires-2
-    cast-size
-    add-byte-at-3
-    byte-at-requires-3
+    (λ c. search needs)
+    (λ c κs. search needs)
+    (λ c. search needs)
+    (λ c. search needs)
+    (λ c κs. search needs)
     mul-at-most-8
-    at-most-8-requires-2
-    at-most-8-requires-3
+    (λ c κs. search needs)
+    (λ c κs. search needs)
     returns-2
     returns-3)
