@@ -156,14 +156,16 @@ fn lower_references() -> Case {
     })
 }
 
-/// As many entries as there may be, and each behind as many slots as there can then be: no block of slots is empty for all of them.
+/// As many entries as there may be, and each behind as many slots as there can then be: no block of slots is empty for all of them. The code
+/// is `SHORTER` times shorter than it may be.
 fn few_each() -> Case {
     let [low, high] = (MOST_ENTRIES as u16).to_le_bytes();
     let switch = [SWITCH, 0, low, high, 0];
-    over_pool("few each", &switch, |files| {
-        set_record(files, TYPES, 11, &type_record(TYPE_NAMES[11], 2, true));
-        add_spread_pool(files, &[switch.len() as i32; MOST_ENTRIES], MOST_SLOTS - 8);
-    })
+    let code = repeated(&switch, MOST_CODE / SHORTER);
+    let mut files = sample::function(&code, 8, &[]);
+    set_record(&mut files, TYPES, 11, &type_record(TYPE_NAMES[11], 2, true));
+    add_spread_pool(&mut files, &[switch.len() as i32; MOST_ENTRIES], MOST_SLOTS - 8);
+    Case { name: "few each", files, code: code.len(), rust: Rust::Same }
 }
 
 /// Elements that lie near enough for a walk not to stop between them.
