@@ -9,7 +9,7 @@ use oracle::ask::{ask, Call, LISTING};
 use oracle::port::{Port, STORE, TABLE};
 use oracle::random::Random;
 use oracle::records::*;
-use oracle::{checks, codes, real, sample, stores};
+use oracle::{checks, codes, decode, real, sample, stores, switches};
 use std::path::{Path, PathBuf};
 use std::process::Command;
 
@@ -35,12 +35,9 @@ fn folder(name: &str) -> PathBuf {
     folder
 }
 
-/// The Rust's listing of the function that the oracle adds an SharedFunctionInfo for.
+/// The Rust's listing of the function that the oracle adds an SharedFunctionInfo for, with the entries of switches under a prefix.
 fn rust_listing(port: &Port) -> String {
-    let mut whole = String::new();
-    port.disassembler().open_render_sfi(port.shared_function_info(), "", &mut whole).unwrap();
-    let lines = whole.lines().skip(1).take_while(|l| !l.starts_with("Constant pool"));
-    lines.map(|l| format!("{l}\n")).collect()
+    switches::listing(port, &decode::all(port, port.code(0)).unwrap()).unwrap()
 }
 
 /// What the records of the export say about the checks of document 01.

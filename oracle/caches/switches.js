@@ -17,7 +17,7 @@ exports.negative = function negative(k) {
     default: return -k;
   }
 };
-// Some numbers between the lowest and the highest have no case: their elements in the pool are no small integers.
+// Some numbers between the lowest and the highest have no case: their entries lead behind the cases.
 exports.holes = function holes(k) {
   let out = '';
   switch (k) {
@@ -108,6 +108,73 @@ exports.extraWideCases = function extraWideCases(k) {
     case 100005: return 'f';
   }
 };
+// Numbers without a case, below zero and near the end of what V8's int holds (with a case 2147483647 V8 11.3 stops with a fatal error).
+exports.wideHoles = function wideHoles(k) {
+  let out = '';
+  switch (k) {
+    case -1000: out += 'a';
+    case -999: out += 'b'; break;
+    case -997: out += 'd'; break;
+    case -994: out += 'g';
+    case -992: return out;
+    case -991: out += 'j';
+  }
+  return out + k;
+};
+exports.extraWideLast = function extraWideLast(k) {
+  switch (k) {
+    case 2147483640: return 'a';
+    case 2147483641: return 'b';
+    case 2147483643: return 'd';
+    case 2147483644: return 'e';
+    case 2147483645: return 'f';
+    case 2147483646: return 'g';
+  }
+};
+// Cases that begin with an instruction under a prefix: an entry is its prefix byte. One of them is a switch.
+exports.wideToWide = function wideToWide(a, b) {
+  switch (a) {
+    case 300: return 1000;
+    case 301: return 100000;
+    case 302:
+      switch (b) {
+        case -70000: return 2000;
+        case -69999: return 200000;
+        case -69998: return 3000;
+        case -69997: return 300000;
+        case -69996: return 5000;
+        case -69995: return 500000;
+      }
+    case 303: return 4000;
+    case 304: return 400000;
+    case 305: return -4000;
+  }
+};
+// In a loop, and in a generator, whose own switch has no prefix.
+exports.wideLooped = function wideLooped(list) {
+  let at = 0, out = 0;
+  for (;;) {
+    switch (list[at++]) {
+      case 500: return out;
+      case 501: out++; continue;
+      case 502: out--; break;
+      case 503: out *= 2; break;
+      case 504: { const k = at; out += (() => k)(); }
+      case 505: out >>= 1;
+    }
+    out = -out;
+  }
+};
+exports.wideResumed = function* wideResumed(k) {
+  switch (k) {
+    case 600: yield 'a';
+    case 601: yield 'b';
+    case 602: yield 'c';
+    case 603: yield 'd';
+    case 604: yield 'e';
+    case 605: return;
+  }
+};
 // A table of 257 entries does not fit behind the pool's first 256 elements, which stay holes: it begins at 256.
 exports.manyCases = function manyCases(k) {
   switch (k) {
@@ -148,6 +215,29 @@ exports.manyCases = function manyCases(k) {
 };
 // More than 255 places to resume at: the generator's own switch has a prefix.
 exports.manyYields = function* manyYields(f) {
+  yield; yield; yield; yield; yield; yield; yield; yield; yield; yield; yield; yield; yield; yield; yield; yield; yield; yield; yield; yield;
+  yield; yield; yield; yield; yield; yield; yield; yield; yield; yield; yield; yield; yield; yield; yield; yield; yield; yield; yield; yield;
+  yield; yield; yield; yield; yield; yield; yield; yield; yield; yield; yield; yield; yield; yield; yield; yield; yield; yield; yield; yield;
+  yield; yield; yield; yield; yield; yield; yield; yield; yield; yield; yield; yield; yield; yield; yield; yield; yield; yield; yield; yield;
+  yield; yield; yield; yield; yield; yield; yield; yield; yield; yield; yield; yield; yield; yield; yield; yield; yield; yield; yield; yield;
+  yield; yield; yield; yield; yield; yield; yield; yield; yield; yield; yield; yield; yield; yield; yield; yield; yield; yield; yield; yield;
+  yield; yield; yield; yield; yield; yield; yield; yield; yield; yield; yield; yield; yield; yield; yield; yield; yield; yield; yield; yield;
+  yield; yield; yield; yield; yield; yield; yield; yield; yield; yield; yield; yield; yield; yield; yield; yield; yield; yield; yield; yield;
+  yield; yield; yield; yield; yield; yield; yield; yield; yield; yield; yield; yield; yield; yield; yield; yield; yield; yield; yield; yield;
+  yield; yield; yield; yield; yield; yield; yield; yield; yield; yield; yield; yield; yield; yield; yield; yield; yield; yield; yield; yield;
+  yield; yield; yield; yield; yield; yield; yield; yield; yield; yield; yield; yield; yield; yield; yield; yield; yield; yield; yield; yield;
+  yield; yield; yield; yield; yield; yield; yield; yield; yield; yield; yield; yield; yield; yield; yield; yield; yield; yield; yield; yield;
+  yield; yield; yield; yield; yield; yield; yield; yield; yield; yield; yield; yield; yield; yield; yield; yield; yield; yield; yield; yield;
+  yield; yield; yield; yield; yield; yield; yield; yield; yield; yield; yield; yield; yield; yield; yield; yield; yield; yield; yield; yield;
+  yield; yield; yield; yield; yield; yield; yield; yield; yield; yield; yield; yield; yield; yield; yield; yield; yield; yield; yield; yield;
+};
+// Of these places all but the first few cannot be reached, so that no code resumes there: their elements are no small integers.
+exports.unreachedYields = function* unreachedYields(f) {
+  yield 1;
+  f(yield 2);
+  return;
+  yield; yield; yield; yield; yield; yield; yield; yield; yield; yield; yield; yield; yield; yield; yield; yield; yield; yield; yield; yield;
+  yield; yield; yield; yield; yield; yield; yield; yield; yield; yield; yield; yield; yield; yield; yield; yield; yield; yield; yield; yield;
   yield; yield; yield; yield; yield; yield; yield; yield; yield; yield; yield; yield; yield; yield; yield; yield; yield; yield; yield; yield;
   yield; yield; yield; yield; yield; yield; yield; yield; yield; yield; yield; yield; yield; yield; yield; yield; yield; yield; yield; yield;
   yield; yield; yield; yield; yield; yield; yield; yield; yield; yield; yield; yield; yield; yield; yield; yield; yield; yield; yield; yield;

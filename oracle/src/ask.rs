@@ -4,6 +4,7 @@ use crate::checks::{self, Refusal};
 use crate::decode;
 use crate::port::{self, bit, Port, STORE, TABLE};
 use crate::records::*;
+use crate::switches::{self, Table};
 use crate::walks::{self, Outcome, Walked};
 use jscd::bytecode::{Instr, Operand};
 use jscd::disasm::open_max_register;
@@ -122,7 +123,7 @@ struct Lent<'a> {
 }
 
 /// What long_listing lends.
-pub const LONG_OUTPUT: usize = 131_072;
+pub const LONG_OUTPUT: usize = 262_144;
 
 const ON_LAYOUT: u8 = 1 << LAYOUT;
 const ON_CODE: u8 = 1 << OPCODES | 1 << TYPES | 1 << LAYOUT;
@@ -298,20 +299,16 @@ fn header(lent: &Lent) -> Result<Answer, Refusal> {
     Ok(words(out))
 }
 
-/// The listing of object 0: header and instruction lines of `render_sfi`.
+/// The listing of object 0: header and instruction lines of `render_sfi`, with the entries of switches under a prefix.
 fn listing(lent: &Lent) -> Result<Answer, Refusal> {
     let port = &lent.port;
     let function = checks::function(lent.files, 0)?;
     checks::code_length(port.code_length(function))?;
-    for ins in &decode::all(port, port.code(function))? {
+    let listed = decode::all(port, port.code(function))?;
+    for ins in &listed {
         checks::switch(port, function, ins)?;
     }
-    let mut whole = String::new();
-    port.disassembler()
-        .open_render_sfi(port.shared_function_info(), "", &mut whole)
-        .expect("the code decodes");
-    let lines = whole.lines().skip(1).take_while(|l| !l.starts_with("Constant pool"));
-    let listing: String = lines.map(|l| format!("{l}\n")).collect();
+    let listing = switches::listing(port, &listed).expect("the code decodes");
     let room = if lent.call.function == LISTING { checks::PROGRAM_OUTPUT } else { LONG_OUTPUT };
     checks::output(listing.len(), room)?;
     Ok(text(listing))
@@ -387,7 +384,7 @@ fn jump_table(lent: &Lent) -> Result<Answer, Refusal> {
         return Ok(Answer::End);
     };
     checks::switch(&lent.port, function, &ins)?;
-    let Some(entries) = lent.port.disassembler().open_jump_table(function, &ins) else {
+    let Some(entries) = switches::entries(&lent.port, function, &ins) else {
         return Ok(Answer::Nothing);
     };
     let mut out = vec![Word::U(entries.len() as u64)];
@@ -397,25 +394,25 @@ fn jump_table(lent: &Lent) -> Result<Answer, Refusal> {
     Ok(words(out))
 }
 
-/// One entry of a table: 0 with case and target, 1 skipped, 2 beyond the table. The Rust leaves skipped entries out, so it
-/// is asked for the tables that end before this entry and behind it.
+/// One entry of a table: 0 with case and target, 1 skipped, 2 beyond the table. Skipped entries are left out of a table, so the
+/// tables that end before this entry and behind it are asked for.
 fn jump_entry(lent: &Lent) -> Result<Answer, Refusal> {
     let (function, Some(ins)) = lent.jump()? else {
         return Ok(Answer::End);
     };
     checks::switch(&lent.port, function, &ins)?;
-    let entries = |ins: &Instr| lent.port.disassembler().open_jump_table(function, ins);
+    let entries = |ins: &Instr| switches::entries(&lent.port, function, ins);
     if entries(&ins).is_none() {
         return Ok(Answer::Nothing);
     }
-    let (place, count) = checks::entry_count(&ins).expect("a table has a count");
+    let Table { count, count_at, .. } = switches::table(&ins).expect("a table has a count");
     let k = lent.call.args[2];
     if k >= count as u64 {
         return Ok(words(vec![Word::U(2)]));
     }
     let first = |n: u64| {
         let mut ins = ins.clone();
-        ins.operands[place] = Operand::Idx(n as u32);
+        ins.operands[count_at] = Operand::Idx(n as u32);
         entries(&ins).expect("a shorter table")
     };
     Ok(words(match first(k + 1).get(first(k).len()) {

@@ -3,9 +3,11 @@
 
 use crate::ask::{Answer, Call, LISTING, LONG_LISTING, LONG_OUTPUT, WALK, WALK_CODE};
 use crate::checks::{self, refuse, PROGRAM_OUTPUT};
+use crate::decode;
 use crate::port::{Port, STORE, TABLE};
 use crate::printed::{self, Printed};
 use crate::records::*;
+use crate::switches;
 use crate::vectors::Writer;
 use crate::walks::Outcome;
 use std::collections::BTreeMap;
@@ -38,12 +40,12 @@ struct Wanted {
     left: BTreeMap<String, Vec<Text>>,
 }
 
-/// A printed function, and what of it is not compared.
+/// A printed function.
 struct Text {
     printed: Printed,
-    /// Lines of switches under a prefix, whose entries are left off.
+    /// Lines of switches under a prefix, whose entries V8 prints and the Rust does not.
     prefixed: usize,
-    /// Lines of a call by a number for which V8 has a name.
+    /// Lines of a call by a number for which V8 has a name: the number is not compared.
     named: usize,
 }
 
@@ -54,8 +56,7 @@ impl Wanted {
         let functions = functions.map_err(|e| format!("{}: {e}", print.display()))?;
         let mut left: BTreeMap<String, Vec<Text>> = BTreeMap::new();
         for printed in functions {
-            let prefixed =
-                printed.listing.lines().filter(|line| without_entries(line).is_some()).count();
+            let prefixed = printed.listing.lines().filter(|line| prefixed_switch(line)).count();
             let named = printed.listing.lines().filter(|line| by_number(line).is_some()).count();
             let key = compared(&printed.listing);
             left.entry(key).or_default().push(Text { printed, prefixed, named });
@@ -82,16 +83,11 @@ impl Wanted {
 
 /// A listing without what is not compared.
 fn compared(listing: &str) -> String {
-    let line = |line| {
-        by_number(line).or(without_entries(line).map(String::from)).unwrap_or(String::from(line))
-    };
-    listing.lines().map(|l| line(l) + "\n").collect()
+    listing.lines().map(|line| by_number(line).unwrap_or(line.into()) + "\n").collect()
 }
 
-/// A switch under a prefix without its entries: V8 prints them, document 01 leaves them out until Wish 1.
-fn without_entries(line: &str) -> Option<&str> {
-    let (before, _) = line.split_once(" { ")?;
-    (before.contains(" Switch") && before.contains("Wide ")).then_some(before)
+fn prefixed_switch(line: &str) -> bool {
+    line.contains(" Switch") && line.contains("Wide ")
 }
 
 /// CallJSRuntime without its number: V8 prints a name for it (NativeContextIndex), jscd and document 01 the number.
@@ -196,8 +192,9 @@ impl Comparison {
         let Comparison { functions, lines, same, prefixed, named, long, closed, .. } = self;
         let mut out = self.differences.join("\n");
         out += if self.differences.is_empty() { "" } else { "\n" };
-        out += &format!("{functions} functions: {same} listed as V8 printed them, {lines} lines; {long} too long to list (17)\n");
-        out += &format!("not compared in these lines: the entries of {prefixed} switches under a prefix, the numbers of {named} CallJSRuntime\n");
+        out += &format!("{functions} functions: {same} listed as V8 printed them, {lines} lines, {prefixed} of them switches under a prefix; ");
+        out += &format!("{long} too long to list (17)\n");
+        out += &format!("not compared in these lines: the numbers of {named} CallJSRuntime\n");
         out + &format!("{closed} walks closed; {} differences\n", self.differences.len())
     }
 }
@@ -211,13 +208,16 @@ pub struct Recording {
     pub walks: Writer,
     pub functions: usize,
     lines: usize,
+    /// Functions with a switch under a prefix, and lines of such.
+    prefixed: [usize; 2],
     reached: usize,
     /// Functions with lines that are not compared: they are not recorded.
     later: Vec<String>,
     pub differences: Vec<String>,
 }
 
-/// Vectors of each function that the Rust lists as V8 printed it; a function that it lists otherwise is a difference.
+/// Vectors of each function that is listed as V8 printed it, by the Rust and, in the lines of switches under a prefix, by the
+/// oracle's own reading (`switches`); a function that is listed otherwise is a difference.
 pub fn record(folder: &Path, print: &Path) -> Result<Recording, String> {
     let mut wanted = Wanted::new(print)?;
     let mut out = Recording {
@@ -225,6 +225,7 @@ pub fn record(folder: &Path, print: &Path) -> Result<Recording, String> {
         walks: Writer::sharing(),
         functions: 0,
         lines: 0,
+        prefixed: [0; 2],
         reached: 0,
         later: Vec::new(),
         differences: Vec::new(),
@@ -232,8 +233,8 @@ pub fn record(folder: &Path, print: &Path) -> Result<Recording, String> {
     for (name, files) in exported(folder)? {
         let rust = listed(&files)?;
         match wanted.take(&rust) {
-            Some(text) if text.prefixed + text.named > 0 => out.later.push(name),
-            Some(text) => out.function(&name, &files, &text.printed.listing)?,
+            Some(text) if text.named > 0 => out.later.push(name),
+            Some(text) => out.function(&name, &files, &text)?,
             None => out.differences.push(match wanted.of_code(&rust) {
                 Some(text) => format!("{name}: {}", parting(&rust, &text.printed.listing)),
                 None => format!("{name}: V8 printed no such code"),
@@ -247,23 +248,24 @@ pub fn record(folder: &Path, print: &Path) -> Result<Recording, String> {
     Ok(out)
 }
 
-/// The Rust's listing, of whatever length.
+/// The listing, of whatever length.
 fn listed(files: &Files) -> Result<String, String> {
     let good = checks::table(files, TABLE).and_then(|_| checks::store(files, checks::PROGRAM_FILE));
     good.and_then(|_| checks::function(files, 0)).map_err(|refusal| refusal.to_string())?;
     let port = Port::new(files, TABLE | STORE)?;
-    let mut whole = String::new();
-    port.disassembler().open_render_sfi(port.shared_function_info(), "", &mut whole)?;
-    let lines = whole.lines().skip(1).take_while(|l| !l.starts_with("Constant pool"));
-    Ok(lines.map(|l| format!("{l}\n")).collect())
+    let listed = decode::all(&port, port.code(0)).map_err(|refusal| refusal.to_string())?;
+    switches::listing(&port, &listed)
 }
 
 impl Recording {
-    fn function(&mut self, name: &str, files: &Files, listing: &str) -> Result<(), String> {
+    fn function(&mut self, name: &str, files: &Files, text: &Text) -> Result<(), String> {
+        let listing = &text.printed.listing;
         self.functions += 1;
         self.lines += listing.lines().count() - 6;
+        self.prefixed[0] += (text.prefixed > 0) as usize;
+        self.prefixed[1] += text.prefixed;
         self.lists.files(files);
-        let text = Answer::Found { words: Vec::new(), text: listing.into() };
+        let text = Answer::Found { words: Vec::new(), text: listing.clone() };
         if listing.len() <= PROGRAM_OUTPUT {
             self.lists.given(&Call::new(LISTING, &[]), &text);
         } else {
@@ -290,10 +292,14 @@ impl Recording {
     }
 
     pub fn report(&self) -> String {
-        let Recording { functions, lines, reached, later, .. } = self;
+        let Recording { functions, lines, prefixed, reached, later, .. } = self;
         let mut out = self.differences.join("\n");
         out += if self.differences.is_empty() { "" } else { "\n" };
         out += &format!("{functions} functions, {lines} lines, {reached} of their instructions reached by walks, all closed\n");
+        out += &format!(
+            "{} of these lines, in {} functions, are switches under a prefix\n",
+            prefixed[1], prefixed[0]
+        );
         out +=
             &format!("not recorded, since lines of theirs are not compared: {}\n", later.join(" "));
         out + &format!("{} differences\n", self.differences.len())
@@ -310,7 +316,8 @@ mod tests {
     fn asked_again() {
         let lists = vectors::replay(include_bytes!("../recorded/caches.vec")).unwrap();
         let walks = vectors::replay(include_bytes!("../recorded/walk-caches.vec")).unwrap();
-        assert!(lists > 60 && walks == 2 * lists);
+        // One listing is refused as too long for the program, and recorded once more in a longer buffer.
+        assert!(lists > 60 && walks == 2 * (lists - 1));
     }
 
     /// A folder as export/cache and batch write them, of functions with these codes, and what V8 might have printed of them.
@@ -416,18 +423,31 @@ mod tests {
         assert_eq!(found[1], "f1: V8 printed it, and it is not listed so");
     }
 
+    /// The entries of a switch, plain and under a prefix: another target, or none, is a difference.
+    #[test]
+    fn entries() {
+        let plain: &[u8] = &[0x09, 0x00, 0x02, 0x05, 0x0b];
+        // The pool's 4 counted from behind the prefix.
+        let wide: &[u8] = &[0x00, 0x09, 0x00, 0x00, 0x02, 0x00, 0x05, 0x00, 0x0b];
+        for (code, shown, prefixed) in [(plain, "{ 5: @4 }", 0), (wide, "{ 5: @5 }", 1)] {
+            let name = if prefixed == 1 { "wide" } else { "plain" };
+            let found = Folder::new(name, &[code], |print| print).compared();
+            assert_eq!((found.differences.len(), found.prefixed), (0, prefixed));
+            let other = |print: String| {
+                assert!(print.contains(shown));
+                print.replace(shown, "{ 5: @3 }")
+            };
+            let none = |print: String| print.replace(&format!(" {shown}"), "");
+            assert_eq!(Folder::new(name, &[code], other).compared().differences.len(), 2);
+            let folder = Folder::new(name, &[code], none);
+            assert_eq!(folder.compared().differences.len(), 2);
+            assert_eq!((folder.recorded().functions, folder.recorded().differences.len()), (0, 2));
+        }
+    }
+
     /// What is not compared, and nothing beside it.
     #[test]
     fn lines_not_compared() {
-        let wide: &[u8] = &[0x00, 0x09, 0x00, 0x00, 0x02, 0x00, 0x05, 0x00, 0x0b];
-        let entries = |print: String| print.replace("[2], [5]\n", "[2], [5] { 5: @5 }\n");
-        let folder = Folder::new("wide", &[wide], entries);
-        let found = folder.compared();
-        assert_eq!((found.differences.len(), found.prefixed), (0, 1));
-        assert_eq!((folder.recorded().functions, folder.recorded().later.len()), (0, 1));
-        let plain: &[u8] = &[0x09, 0x00, 0x02, 0x05, 0x0b];
-        let other = |print: String| print.replace("{ 5: @4 }", "{ 5: @5 }");
-        assert_eq!(Folder::new("plain", &[plain], other).compared().differences.len(), 2);
         let line = "           @    0 : 67 08 fa 01        CallJSRuntime [reflect_apply], r0-r0";
         let ours = "           @    0 : 67 08 fa 01        CallJSRuntime [8], r0-r0";
         assert_eq!(compared(line), compared(ours));

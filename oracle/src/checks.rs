@@ -4,7 +4,8 @@
 
 use crate::port::{bit, Port};
 use crate::records::*;
-use jscd::bytecode::{Instr, Operand};
+use crate::switches;
+use jscd::bytecode::Instr;
 use std::fmt;
 
 #[derive(Debug, Clone, Copy, PartialEq, Eq)]
@@ -220,37 +221,13 @@ pub fn start(code: &[u8], place: u64) -> Result<usize, Refusal> {
 
 // ---- switch: 16 ----
 
-/// `function` is the object whose pool is meant.
+/// Of a switch under a prefix too (Wish 1). `function` is the object whose pool is meant.
 pub fn switch(port: &Port, function: usize, ins: &Instr) -> Check {
-    match entry_count(ins) {
-        Some((_, count)) if port.pool(function).is_some() => {
-            expect((0..=MOST_ENTRIES).contains(&count), 16, ins.offset)
+    match switches::table(ins) {
+        Some(table) if port.pool(function).is_some() => {
+            expect((0..=MOST_ENTRIES).contains(&table.count), 16, ins.offset)
         }
         _ => Ok(()),
-    }
-}
-
-/// Which operand is the entry count, and the count, of an unprefixed switch whose operands are of the right kinds.
-pub fn entry_count(ins: &Instr) -> Option<(usize, i64)> {
-    let index = |k: usize| match ins.operands.get(k)? {
-        Operand::Idx(v) => Some(*v as i64),
-        _ => None,
-    };
-    let number = |k: usize| match ins.operands.get(k)? {
-        Operand::Imm(v) => Some(*v),
-        _ => index(k),
-    };
-    match ins.name.as_str() {
-        "SwitchOnSmiNoFeedback" => {
-            index(0)?;
-            number(2)?;
-            Some((1, number(1)?))
-        }
-        "SwitchOnGeneratorState" => {
-            index(1)?;
-            Some((2, number(2)?))
-        }
-        _ => None,
     }
 }
 

@@ -34,6 +34,11 @@ pub fn one(port: &Port, code: &[u8], place: usize) -> Result<Option<Instr>, Refu
     }
 }
 
+/// The plain name: names hold no dot, so what is behind one is `Wide` or `ExtraWide`.
+pub fn plain(ins: &Instr) -> &str {
+    ins.name.split('.').next().unwrap_or_default()
+}
+
 /// The checks of lent code and a start place, and then the instruction there.
 pub fn checked(port: &Port, code: &[u8], place: u64) -> Result<Option<Instr>, Refusal> {
     checks::lent_code(code)?;

@@ -5,7 +5,7 @@ use crate::checks::MOST_CODE;
 use crate::classes::Classes;
 use crate::codes;
 use crate::faults;
-use crate::jump_recording::instruction;
+use crate::jump_recording::{instruction, scale};
 use crate::lists::{self, SWITCHES};
 use crate::random::Random;
 use crate::records::*;
@@ -29,6 +29,7 @@ pub fn record(seed: u64) -> Result<EntryRecording, String> {
     let mut out = EntryRecording { writer: Writer::sharing(), classes: Classes::default() };
     out.faults()?;
     out.rows()?;
+    out.switches()?;
     let pools = codes::pools(&mut r);
     for k in 0..TABLES {
         let table = lists::table(&mut r, &pools, k);
@@ -93,6 +94,19 @@ impl EntryRecording {
         Ok(())
     }
 
+    /// The first and the last entries of switches, without a prefix and under both, and those behind.
+    fn switches(&mut self) -> Result<(), String> {
+        let functions = [lists::switches(), lists::large_switches()];
+        for (files, code) in functions.concat() {
+            for object in [0, NO_OBJECT] {
+                for entry in [0, 1, 2, 3, 4_095, 4_096, u64::MAX] {
+                    self.call(&files, &code, &Call::new(JUMP_ENTRY, &[object, 0, entry]))?;
+                }
+            }
+        }
+        Ok(())
+    }
+
     /// Entries of each switch of a code, around their number.
     fn random(&mut self, r: &mut Random, files: &Files, code: &[u8]) -> Result<(), String> {
         let mut at = 0;
@@ -147,7 +161,13 @@ fn classes(
     answer: &Answer,
 ) -> Result<Vec<String>, String> {
     let found: Vec<u64> = match answer {
-        Answer::Refused(refusal) => return Ok(vec![format!("refused {}", refusal.number)]),
+        Answer::Refused(refusal) => {
+            let mut out = vec![format!("refused {}", refusal.number)];
+            if refusal.number == 16 && scale(files, code, call)? > 1 {
+                out.push("refused 16, prefixed".into());
+            }
+            return Ok(out);
+        }
         Answer::End => return Ok(vec!["end".into()]),
         Answer::Found { words, .. } => words.iter().map(|w| w.bits()).collect(),
         _ => Vec::new(),
@@ -159,16 +179,16 @@ fn classes(
     let prefixed = if scale == 1 { "" } else { ", prefixed" };
     Ok(match found[..] {
         [0, case, target] => {
-            let mut out = vec![format!("{name}: shown")];
+            let mut out = vec![format!("{name}: shown{prefixed}")];
             let first = if call.args[2] == 0 { "the first" } else { "a later one" };
-            out.push(format!("{name}: {first} shown"));
-            out.extend(((case as i64) < 0).then(|| "a case below zero".into()));
-            out.extend(((target as i64) < 0).then(|| "a target below zero".into()));
+            out.push(format!("{name}: {first} shown{prefixed}"));
+            out.extend(((case as i64) < 0).then(|| format!("a case below zero{prefixed}")));
+            out.extend(((target as i64) < 0).then(|| format!("a target below zero{prefixed}")));
             out
         }
-        [1] => vec![format!("{name}: skipped")],
-        [2] if call.args[2] > u16::MAX as u64 => vec!["far beyond".into()],
-        [2] => vec![format!("{name}: beyond")],
+        [1] => vec![format!("{name}: skipped{prefixed}")],
+        [2] if call.args[2] > u16::MAX as u64 => vec![format!("far beyond{prefixed}")],
+        [2] => vec![format!("{name}: beyond{prefixed}")],
         _ => vec![format!("{name}: nothing{prefixed}")],
     })
 }
@@ -176,27 +196,20 @@ fn classes(
 /// Classes that must have a case.
 pub fn wanted() -> Vec<String> {
     let mut out: Vec<String> = Vec::new();
-    for name in SWITCHES {
-        for kind in [
-            "shown",
-            "the first shown",
-            "a later one shown",
-            "skipped",
-            "beyond",
-            "nothing",
-            "nothing, prefixed",
-        ] {
-            out.push(format!("{name}: {kind}"));
+    for prefixed in ["", ", prefixed"] {
+        for name in SWITCHES {
+            for kind in
+                ["shown", "the first shown", "a later one shown", "skipped", "beyond", "nothing"]
+            {
+                out.push(format!("{name}: {kind}{prefixed}"));
+            }
+        }
+        for class in ["far beyond", "a case below zero", "a target below zero", "refused 16"] {
+            out.push(format!("{class}{prefixed}"));
         }
     }
-    for class in
-        ["far beyond", "a case below zero", "a target below zero", "nothing, another name", "end"]
-    {
-        out.push(class.into());
-    }
-    out.extend(
-        [1, 2, 3, 4, 5, 6, 7, 8, 10, 20, 11, 12, 13, 14, 16].map(|n| format!("refused {n}")),
-    );
+    out.extend(["nothing, another name", "end"].map(String::from));
+    out.extend([1, 2, 3, 4, 5, 6, 7, 8, 10, 20, 11, 12, 13, 14].map(|n| format!("refused {n}")));
     out
 }
 

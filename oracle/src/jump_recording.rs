@@ -19,7 +19,7 @@ const CALLS: usize = 20;
 const TABLES: usize = 48;
 const SHAPES: usize = 3;
 const CODES: usize = 5;
-const JUMP_CALLS: usize = 5;
+const JUMP_CALLS: usize = 6;
 /// A call is taken where one of its classes has fewer cases than this, and else sometimes.
 const ENOUGH: usize = 30;
 
@@ -50,6 +50,7 @@ pub fn record(seed: u64) -> Result<JumpRecording, String> {
             out.random(&mut r, &table, ts, unit)?;
         }
     }
+    out.switches()?;
     out.long_codes()?;
     Ok(out)
 }
@@ -115,6 +116,19 @@ impl JumpRecording {
             self.call(&Call::new(NUM_FIELD, &[object, 1, k as u64 % 2]))?;
             self.call(&Call::new(JUMP_TARGET, &[object, 0]))?;
             self.call(&Call::new(JUMP_TABLE, &[object, 2]))?;
+        }
+        Ok(())
+    }
+
+    /// The tables of switches, without a prefix and under both.
+    fn switches(&mut self) -> Result<(), String> {
+        let functions = [lists::switches(), lists::large_switches()];
+        for (files, code) in functions.concat() {
+            self.set(&files, &code);
+            for object in [0, NO_OBJECT] {
+                self.call(&Call::new(JUMP_TABLE, &[object, 0]))?;
+                self.call(&Call::new(JUMP_TARGET, &[object, 0]))?;
+            }
         }
         Ok(())
     }
@@ -224,6 +238,11 @@ pub fn instruction(
     })
 }
 
+/// The scale of the instruction that a call is about; 0 where it is about none.
+pub fn scale(files: &Files, code: &[u8], call: &Call) -> Result<u64, String> {
+    Ok(instruction(files, code, call.args[1])?.map_or(0, |(_, scale, _)| scale))
+}
+
 /// Which cases a call is one of.
 fn classes(
     files: &Files,
@@ -234,7 +253,11 @@ fn classes(
     let function = FUNCTIONS[call.function].name;
     let found: Vec<u64> = match answer {
         Answer::Refused(refusal) => {
-            return Ok(vec![format!("{function}: refused {}", refusal.number)])
+            let mut out = vec![format!("{function}: refused {}", refusal.number)];
+            if refusal.number == 16 && scale(files, code, call)? > 1 {
+                out.push(format!("{function}: refused 16, prefixed"));
+            }
+            return Ok(out);
         }
         Answer::End => return Ok(vec![format!("{function}: end")]),
         Answer::Found { words, .. } => words.iter().map(|w| w.bits()).collect(),
@@ -296,14 +319,17 @@ fn table_classes(ins: Option<(String, u64, u64)>, found: &[u64]) -> Vec<String> 
     let prefixed = if scale == 1 { "" } else { ", prefixed" };
     match found {
         [] => vec![format!("nothing, {name}{prefixed}")],
-        [0, ..] => vec![format!("{name}, no entries")],
+        [0, ..] => vec![format!("{name}{prefixed}, no entries")],
         [count, entries @ ..] => {
             let cases: Vec<i64> = entries.chunks(2).map(|e| e[0] as i64).collect();
             let gaps = cases.windows(2).any(|w| w[1] != w[0] + 1);
-            let mut out = vec![format!("{name}, entries")];
-            out.extend((*count > 1).then(|| format!("{name}, several entries")));
-            out.extend(gaps.then(|| "one skipped between two".to_string()));
-            out.extend(cases.iter().any(|c| *c < 0).then(|| "a case below zero".to_string()));
+            let mut out = vec![format!("{name}{prefixed}, entries")];
+            out.extend((*count > 1).then(|| format!("{name}{prefixed}, several entries")));
+            out.extend(gaps.then(|| format!("one skipped between two{prefixed}")));
+            out.extend(
+                cases.iter().any(|c| *c < 0).then(|| format!("a case below zero{prefixed}")),
+            );
+            out.extend((*count == 4_096).then(|| format!("4096 entries{prefixed}")));
             out
         }
     }
@@ -337,15 +363,19 @@ pub fn wanted() -> Vec<String> {
         out.push(format!("jump_target: nothing, a jump{how}"));
     }
     out.push("jump_target: nothing, a jump by the pool, no object".into());
-    for name in SWITCHES {
-        let kinds = ["no entries", "entries", "several entries"];
-        out.extend(kinds.map(|kind| format!("jump_table: {name}, {kind}")));
-        out.push(format!("jump_table: nothing, {name}"));
-        out.push(format!("jump_table: nothing, {name}, prefixed"));
+    for prefixed in ["", ", prefixed"] {
+        for name in SWITCHES {
+            let kinds = ["no entries", "entries", "several entries"];
+            out.extend(kinds.map(|kind| format!("jump_table: {name}{prefixed}, {kind}")));
+            out.push(format!("jump_table: nothing, {name}{prefixed}"));
+        }
+        out.extend(
+            ["one skipped between two", "a case below zero"]
+                .map(|c| format!("jump_table: {c}{prefixed}")),
+        );
+        out.push(format!("jump_table: refused 16{prefixed}"));
     }
-    out.extend(
-        ["one skipped between two", "a case below zero"].map(|c| format!("jump_table: {c}")),
-    );
+    out.push("jump_table: 4096 entries, prefixed".into());
     for function in ["jump_target", "jump_table"] {
         out.push(format!("{function}: nothing, another name"));
         out.push(format!("{function}: end"));
@@ -354,7 +384,6 @@ pub fn wanted() -> Vec<String> {
                 .map(|n| format!("{function}: refused {n}")),
         );
     }
-    out.push("jump_table: refused 16".into());
     out.extend(["found", "nothing"].map(|c| format!("max_register: {c}")));
     out.extend([1, 2, 3, 4, 5, 10, 11, 12, 13, 14].map(|n| format!("max_register: refused {n}")));
     out

@@ -24,6 +24,9 @@ pub fn record(seed: u64) -> Result<ListRecording, String> {
     let mut r = Random::new(seed);
     let mut out = ListRecording { writer: Writer::sharing(), classes: Classes::default() };
     out.faults()?;
+    for (files, _) in lists::switches() {
+        out.call(&files)?;
+    }
     let pools = codes::pools(&mut r);
     for k in 0..TABLES {
         let table = lists::table(&mut r, &pools, k);
@@ -190,7 +193,6 @@ pub fn wanted() -> Vec<String> {
         }
     }
     for name in SWITCHES {
-        out.push(format!("{name}: no table, prefixed"));
         for kind in [
             "no table",
             "{ } of count 0",
@@ -199,6 +201,7 @@ pub fn wanted() -> Vec<String> {
             "entries, all shown",
         ] {
             out.push(format!("{name}: {kind}"));
+            out.push(format!("{name}: {kind}, prefixed"));
         }
     }
     out

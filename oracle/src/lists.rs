@@ -4,6 +4,7 @@
 use crate::codes::{self, Pools};
 use crate::random::Random;
 use crate::records::*;
+use crate::sample;
 
 /// The names that have a target.
 pub const JUMPS: [&str; 30] = [
@@ -147,6 +148,59 @@ fn flowing(r: &mut Random, files: &Files, pool: &Elements, out: &mut Vec<u8>) {
             out.extend(&value.to_le_bytes()[..width]);
         }
     }
+}
+
+/// Functions of a switch and a Return: both names, without a prefix and under both, entries shown and skipped, cases that wrap.
+pub fn switches() -> Vec<(Files, Vec<u8>)> {
+    let pool = [Some(9), None, Some(-3)];
+    let smi = |scale, numbers: [i64; 3]| switch_code(scale, 0x09, numbers);
+    let generator = |scale, numbers: [i64; 3]| switch_code(scale, 0x0c, numbers);
+    let mut out = Vec::new();
+    for scale in [1, 2, 4] {
+        out.extend([smi(scale, [0, 3, 5]), smi(scale, [0, 0, 5]), smi(scale, [1, 1, -1])]);
+        let lowest = -1 << (8 * scale - 1);
+        out.extend([smi(scale, [2, 2, lowest]), smi(scale, [3, 2, 0])]);
+        out.extend([generator(scale, [-6, 0, 3]), generator(scale, [-6, 0, 0])]);
+        out.extend([generator(scale, [-6, 1, 1]), generator(scale, [-6, 2, 4])]);
+        out.push(generator(scale, [-6, 2, 1]));
+    }
+    out.push(smi(4, [0, 3, i32::MAX as i64]));
+    let function = |code: Vec<u8>| (with_generator(sample::function(&code, 8, &pool)), code);
+    out.into_iter().map(function).collect()
+}
+
+/// The same under a prefix, with the greatest number of entries, and one more.
+pub fn large_switches() -> Vec<(Files, Vec<u8>)> {
+    let most = switch_code(2, 0x09, [0, 4_096, 0]);
+    let more = [switch_code(2, 0x09, [0, 4_097, 0]), switch_code(4, 0x0c, [-6, 0, 4_097])];
+    let function = |code: Vec<u8>| (with_generator(repeated(&code)), code);
+    [most].into_iter().chain(more).map(function).collect()
+}
+
+/// A switch of the sample's table with the generator's as opcode 0c, its operands `scale` bytes wide, and a Return.
+pub fn switch_code(scale: usize, opcode: u8, numbers: [i64; 3]) -> Vec<u8> {
+    let mut out = match scale {
+        1 => vec![opcode],
+        _ => vec![scale as u8 / 4, opcode],
+    };
+    out.extend(numbers.iter().flat_map(|n| n.to_le_bytes()[..scale].to_vec()));
+    out.push(0x0b);
+    out
+}
+
+pub fn with_generator(mut files: Files) -> Files {
+    files.body[OPCODES].extend(opcode_record("SwitchOnGeneratorState", 0, &[0, 10, 11]));
+    files
+}
+
+/// The sample's table with a function of this code, whose pool is one small integer, 4,097 times.
+pub fn repeated(code: &[u8]) -> Files {
+    let mut files = sample::function(code, 8, &[Some(4)]);
+    let last = files.count(SLOTS) - 1;
+    let element = Slot::read(files.record(SLOTS, last));
+    files.body[SLOTS].truncate(24 * last);
+    files.body[SLOTS].extend(Slot { kind: 5, inner: 4, count: 4_097, ..element }.bytes());
+    files
 }
 
 /// A layout and a store, whose payload each code has for itself.

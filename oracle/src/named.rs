@@ -2,6 +2,7 @@
 
 use crate::ask::*;
 use crate::checks::{PROGRAM_FILE, PROGRAM_OUTPUT};
+use crate::lists::{repeated, switch_code, with_generator};
 use crate::records::*;
 use crate::sample;
 use crate::vectors::Writer;
@@ -25,6 +26,7 @@ pub fn record() -> Result<NamedRecording, String> {
     out.case("a switch of no entries", &function(&[0x09, 0x00, 0x00, 0x05, 0x0b]))?;
     out.case("a switch of one skipped entry", &function(&[0x09, 0x01, 0x01, 0x05, 0x0b]))?;
     out.case("a switch under a prefix", &function(&[0x00, 9, 0, 0, 2, 0, 5, 0, 0x0b]))?;
+    out.prefixed_switches()?;
     let no_pool = sample::function(&[0x09, 0x00, 0x02, 0x05, 0x0b], 8, &[]);
     out.case("a switch without a pool", &no_pool)?;
     out.case("a target below zero", &function(&[0x07, 0x03, 0x00]))?;
@@ -61,6 +63,27 @@ impl NamedRecording {
         };
         self.report += &format!("{name}:\n{}\n", shown.trim_end_matches('\n'));
         Ok(())
+    }
+
+    /// Both switches under both prefixes.
+    fn prefixed_switches(&mut self) -> Result<(), String> {
+        let smi = |scale, numbers: [i64; 3]| switch_code(scale, 0x09, numbers);
+        let generator = |scale, numbers: [i64; 3]| switch_code(scale, 0x0c, numbers);
+        let pool = [Some(4), None, Some(9)];
+        let function = |code: &[u8]| with_generator(sample::function(code, 8, &pool));
+        self.case("a switch under ExtraWide", &function(&smi(4, [0, 3, 5])))?;
+        self.case("a generator's switch under Wide", &function(&generator(2, [-6, 0, 3])))?;
+        self.case("a generator's switch under ExtraWide", &function(&generator(4, [-6, 0, 3])))?;
+        let wraps = smi(4, [0, 3, i32::MAX as i64]);
+        self.case("a switch under ExtraWide from 2147483647 on", &function(&wraps))?;
+        let skipped = smi(2, [1, 1, 5]);
+        self.case("a switch under Wide of one skipped entry", &function(&skipped))?;
+        let no_pool = sample::function(&smi(2, [0, 3, 5]), 8, &[]);
+        self.case("a switch under Wide without a pool", &no_pool)?;
+        self.case("a switch under Wide, a count of -1", &counted(&function(&smi(2, [0, -1, 5]))))?;
+        let most = repeated(&smi(2, [0, 4_096, 5]));
+        self.case("a switch of 4,096 entries under Wide", &most)?;
+        self.case("a switch of 4,097 entries under Wide", &repeated(&smi(2, [0, 4_097, 5])))
     }
 
     /// Files longer than a program reads: the first bytes of this file, as a part of it.

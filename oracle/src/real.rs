@@ -145,8 +145,8 @@ mod tests {
     use super::*;
     use crate::ask::{ask, Call, LISTING};
 
-    /// The Rust lists each function as V8 printed it, where the listings are beside the repository. A switch behind a prefix has no
-    /// entries in the Rust. A listing that is too long for the program is number 17.
+    /// The Rust lists each function as V8 printed it, where the listings are beside the repository. A listing that is too long for the
+    /// program is number 17.
     #[test]
     fn as_v8_printed() {
         let folder = Path::new(env!("CARGO_MANIFEST_DIR")).join("../../shared/v8-listings");
@@ -160,10 +160,6 @@ mod tests {
                 continue;
             }
             for (rust, v8) in said.lines().zip(function.listing.lines()) {
-                let v8 = match rust.contains(" Switch") && rust.contains("Wide ") {
-                    true => v8.split(" { ").next().unwrap(),
-                    false => v8,
-                };
                 assert_eq!(rust, v8, "{}", function.name);
             }
             assert_eq!(said.lines().count(), function.listing.lines().count());

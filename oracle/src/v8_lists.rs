@@ -14,8 +14,6 @@ pub struct V8Lists {
     pub writer: Writer,
     pub functions: usize,
     pub lines: usize,
-    /// Lines of a switch under a prefix, which lose their entries.
-    pub prefixed: usize,
     /// Functions that the program refuses with 17; their text is asked for in a longer buffer.
     pub long: usize,
     /// Where the Rust lists something else.
@@ -27,7 +25,6 @@ struct Case {
     v8: String,
     files: Files,
     text: String,
-    prefixed: usize,
 }
 
 pub fn record(folder: &Path) -> Result<V8Lists, String> {
@@ -50,7 +47,6 @@ impl V8Lists {
     fn function(&mut self, case: &Case) -> Result<(), String> {
         self.functions += 1;
         self.lines += case.text.lines().count() - 6;
-        self.prefixed += case.prefixed;
         self.writer.files(&case.files);
         let text = Answer::Found { words: Vec::new(), text: case.text.clone() };
         if case.text.len() > PROGRAM_OUTPUT {
@@ -76,7 +72,6 @@ impl V8Lists {
     pub fn report(&self) -> String {
         let mut out = self.differences.concat();
         out += &format!("{} functions, {} lines, ", self.functions, self.lines);
-        out += &format!("{} of them switches under a prefix; ", self.prefixed);
         out += &format!("{} listings of more than {PROGRAM_OUTPUT} bytes\n", self.long);
         out + &format!("the Rust lists {} otherwise\n", self.differences.len())
     }
@@ -89,13 +84,13 @@ fn case(folder: &Path, line: &str) -> Result<Option<Case>, String> {
     let v8 = case["v8"].as_str().unwrap_or_default().to_string();
     let mut files = tables(&folder.join("tables").join(&v8))?;
     Ok(store(&case, &mut files).and_then(|_| {
-        let (text, prefixed) = listing(&case)?;
-        Some(Case { v8, files, text, prefixed })
+        let text = listing(&case)?;
+        Some(Case { v8, files, text })
     }))
 }
 
-/// The header lines by V8's numbers, and V8's lines; a switch under a prefix without its entries.
-fn listing(case: &Value) -> Option<(String, usize)> {
+/// The header lines by V8's numbers, and V8's lines.
+fn listing(case: &Value) -> Option<String> {
     let number = |key: &str| case[key].as_i64();
     let mut out = format!("Bytecode length: {}\n", case["code"].as_str()?.len() / 2);
     for (text, key) in [
@@ -107,19 +102,10 @@ fn listing(case: &Value) -> Option<(String, usize)> {
     ] {
         out += &format!("{text} {}\n", number(key)?);
     }
-    let mut prefixed = 0;
     for line in case["lines"].as_array()? {
-        let line = line.as_str()?;
-        let wide = line.contains(".Wide ") || line.contains(".ExtraWide ");
-        match line.find(" { ") {
-            Some(at) if wide => {
-                prefixed += 1;
-                out += &format!("{}\n", &line[..at]);
-            }
-            _ => out += &format!("{line}\n"),
-        }
+        out += &format!("{}\n", line.as_str()?);
     }
-    Some((out, prefixed))
+    Some(out)
 }
 
 fn small_integer(value: i64) -> [u8; 8] {

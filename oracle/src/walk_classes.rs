@@ -2,8 +2,10 @@
 //! answer that differs from them is an error.
 
 use crate::ask::*;
+use crate::decode::plain;
 use crate::port::{Port, STORE, TABLE};
 use crate::records::*;
+use crate::switches;
 use crate::walk_codes::NEAR;
 use crate::walks::*;
 use jscd::bytecode::Instr;
@@ -61,7 +63,7 @@ fn on_walk(
     let code = if call.function == WALK { port.code(0) } else { lent };
     let listed = listed(&port, function, code).map_err(|r| r.to_string())?;
     let steps = all_steps(&port, function, &listed);
-    let entries = |ins: &Instr| port.disassembler().open_jump_table(function, ins);
+    let entries = |ins: &Instr| switches::entries(&port, function, ins);
     let entries = listed.iter().map(|ins| entries(ins).map(|e| e.len())).collect();
     let asked = Asked { listed, steps, entries, code, walked };
     let mut out = held(&[
@@ -229,6 +231,21 @@ impl Asked<'_> {
                     Some(_) => "several entries",
                 };
                 out.push(format!("{name}{prefix}, {shown}"));
+                // Those of the entries; behind them stands the step to the next instruction.
+                let steps = &self.steps[&ins.offset][..entries.unwrap_or(0)];
+                let to = held(&[
+                    ("an entry to an instruction", steps.iter().any(listed)),
+                    ("an entry that leaves", !steps.iter().all(listed)),
+                ]);
+                out.extend(to.iter().map(|class| format!("{name}{prefix}, {class}")));
+                let near = |behind: usize| {
+                    let places = self.listed.iter().filter(|ins| ins.scale > 1);
+                    places.map(|ins| Some(ins.offset + behind)).any(|at| steps.contains(&at))
+                };
+                out.extend(held(&[
+                    ("an entry to a prefix byte", near(0)),
+                    ("an entry to an opcode byte behind a prefix", near(1)),
+                ]));
             }
         }
         out.sort();
@@ -289,14 +306,18 @@ pub fn wanted() -> Vec<String> {
     out.extend(ENDS.iter().chain(&NEAR).map(|name| format!("{name} reached")));
     out.extend(ALWAYS.iter().chain(&MAYBE).map(|name| format!("{name} to an instruction")));
     for name in SWITCHES {
-        for shown in ["no table", "no entries", "one entry", "several entries"] {
-            out.push(format!("{name}, {shown}"));
-        }
-        for prefix in ["Wide", "ExtraWide"] {
-            out.push(format!("{name} under {prefix}, no table"));
+        for prefix in ["", " under Wide", " under ExtraWide"] {
+            for shown in ["no table", "no entries", "one entry", "several entries"] {
+                out.push(format!("{name}{prefix}, {shown}"));
+            }
+            out.push(format!("{name}{prefix}, an entry to an instruction"));
+            out.push(format!("{name}{prefix}, an entry that leaves"));
         }
     }
     out.push("SwitchOnSmiNoFeedback, 4096 entries".into());
+    out.push("SwitchOnSmiNoFeedback under Wide, 4096 entries".into());
+    out.push("an entry to a prefix byte".into());
+    out.push("an entry to an opcode byte behind a prefix".into());
     let mut out: Vec<String> = out.iter().map(|class| format!("walk_code: {class}")).collect();
     out.extend(REFUSALS.iter().chain(&[9]).map(|n| format!("walk: refused {n}")));
     let of_objects = [

@@ -311,9 +311,7 @@ impl Maker<'_> {
             };
             let from = if from.is_empty() { &others } else { from };
             let opcode = *r.pick(from);
-            // A switch under a prefix has no entries; let that be seldom.
-            let seldom = if is_switch(&opcodes[opcode].1) { 8 } else { 4 };
-            let mark = if r.once_in(seldom) { 1 + r.below(2) as u8 } else { 0 };
+            let mark = if r.once_in(4) { 1 + r.below(2) as u8 } else { 0 };
             self.plan(r, opcode, &opcodes[opcode].1, mark);
         }
     }
@@ -409,9 +407,6 @@ impl Maker<'_> {
             return;
         }
         self.plan[k].put(first + 1, count as i64);
-        if self.plan[k].prefix.is_some() {
-            return;
-        }
         self.reads_pool = true;
         for element in start..start + count {
             if !self.used[element] && matches!(self.pool[element], Element::Number(_)) {

@@ -49,6 +49,8 @@ pub fn record(seed: u64) -> Result<WalkRecording, String> {
     out.nests()?;
     out.large_switch()?;
     out.long_lines()?;
+    out.prefixed_switches()?;
+    out.large_prefixed_switch()?;
     out.next_file();
     let pools = codes::pools(&mut r);
     for _ in 1..PARTS {
@@ -197,7 +199,7 @@ impl WalkRecording {
             &[0x0c, 0x00, 0xff, 0x00, 0x0b],
             &[0x0b, 0x0c, 0x00, 0x80, 0x00],
             &[0x0d, 0xfa, 0x00, 0xff, 0x0b],
-            // Under a prefix a switch has no entries to count.
+            // Under a prefix too.
             &[0x00, 0x0c, 0x00, 0x00, 0xff, 0xff, 0x00, 0x00, 0x0b],
             &[0x01, 0x0d, 0, 0, 0, 0, 0, 0, 0, 0, 0xff, 0xff, 0xff, 0xff, 0x0b],
             // 16 is behind 14, wherever they stand.
@@ -281,6 +283,62 @@ impl WalkRecording {
             self.set(&files, &line[part]);
             self.walk_code(NO_OBJECT)?;
             self.call(WALK_CODE, &[NO_OBJECT, MOST_CODE as u64 - 1])?;
+        }
+        Ok(())
+    }
+
+    /// Switches under a prefix, of which an entry is an instruction, or the byte behind its start.
+    fn prefixed_switches(&mut self) -> Result<(), String> {
+        let wide: &[u8] = &[0, 9, 0, 0, 1, 0, 5, 0];
+        let extra_wide: &[u8] = &[1, 9, 0, 0, 0, 0, 1, 0, 0, 0, 5, 0, 0, 0];
+        let generator: &[u8] = &[0, 0x0c, 0xfa, 0xff, 0, 0, 1, 0];
+        let extra_generator: &[u8] = &[1, 0x0c, 0xfa, 0xff, 0xff, 0xff, 0, 0, 0, 0, 1, 0, 0, 0];
+        for switch in [wide, extra_wide, generator, extra_generator] {
+            // Distances count from behind the prefix.
+            let behind = switch.len() as i32 - 1;
+            for (rest, to) in [
+                // Return.
+                (&[0x0b][..], &[0, 1][..]),
+                // LdaSmi.Wide and Return: its prefix byte is a start, its opcode byte is none.
+                (&[0x00, 0x03, 0x05, 0x00, 0x0b], &[0, 1]),
+                // A jump into itself that only the entry reaches.
+                (&[0x0b, 0x05, 0x01], &[1, -1 - behind]),
+            ] {
+                for to in to {
+                    let code = [switch, rest].concat();
+                    let mut files = sample::function(&code, 8, &[Some(behind + to), None]);
+                    let record = opcode_record("SwitchOnGeneratorState", 0, &[0, 10, 11]);
+                    files.body[OPCODES].extend(record);
+                    self.set(&files, &code);
+                    self.walk_code(0)?;
+                    self.walk_code(NO_OBJECT)?;
+                    self.call(WALK, &[code.len() as u64])?;
+                }
+            }
+        }
+        Ok(())
+    }
+
+    /// The same as `large_switch` under Wide, where the count has two bytes.
+    fn large_prefixed_switch(&mut self) -> Result<(), String> {
+        let most = MOST_ENTRIES as usize;
+        let mut files = sample::table();
+        files.body[LAYOUT][0] = 4;
+        let mut pool: Vec<Element> =
+            (0..=most).map(|k| Element::Number(7 + (k * 7 % most) as i32)).collect();
+        for bad in [None, Some(most - 1)] {
+            if let Some(k) = bad {
+                pool[k] = Element::Number(1);
+            }
+            set_store(&mut files, &[], &[], &pool);
+            for count in [most, most + 1] {
+                let [low, high] = (count as u16).to_le_bytes();
+                let mut code = vec![0x00, 0x09, 0x00, 0x00, low, high, 0x00, 0x00];
+                code.extend([0x02, 0x02, 0x0b, 0x02].repeat(most / 4));
+                code.push(0x0b);
+                self.set(&files, &code);
+                self.walk_code(0)?;
+            }
         }
         Ok(())
     }

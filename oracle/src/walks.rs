@@ -1,12 +1,14 @@
 //! The walk check, written from document 01's section "Walks". The Rust has none: it decodes and
-//! gives jump targets and switch entries, and what the steps of an instruction are is said here.
+//! gives jump targets and switch entries (`switches` those under a prefix), and what the steps of an
+//! instruction are is said here.
 //!
 //! The sets of offsets reached in exactly 0, 1, 2, .. steps are worked out one after the other, as the
 //! section defines them.
 
 use crate::checks::{self, Refusal};
-use crate::decode;
+use crate::decode::{self, plain};
 use crate::port::Port;
+use crate::switches;
 use jscd::bytecode::Instr;
 use std::collections::{BTreeMap, BTreeSet};
 
@@ -98,11 +100,6 @@ pub fn all_steps(port: &Port, function: usize, listed: &[Instr]) -> Steps {
     listed.iter().map(|ins| (ins.offset, steps(port, function, ins))).collect()
 }
 
-/// The plain name: names hold no dot, so what is behind one is `Wide` or `ExtraWide`.
-pub fn plain(ins: &Instr) -> &str {
-    ins.name.split('.').next().unwrap_or_default()
-}
-
 fn steps(port: &Port, function: usize, ins: &Instr) -> Vec<Step> {
     let end = Some(ins.offset + ins.bytes.len());
     let target = || port.disassembler().open_jump_target(function, ins);
@@ -111,7 +108,7 @@ fn steps(port: &Port, function: usize, ins: &Instr) -> Vec<Step> {
         name if ALWAYS.contains(&name) => vec![target()],
         name if MAYBE.contains(&name) => vec![target(), end],
         name if SWITCHES.contains(&name) => {
-            let entries = port.disassembler().open_jump_table(function, ins).unwrap_or_default();
+            let entries = switches::entries(port, function, ins).unwrap_or_default();
             entries.into_iter().map(|(_, target)| Some(target)).chain([end]).collect()
         }
         _ => vec![end],

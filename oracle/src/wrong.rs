@@ -69,7 +69,7 @@ pub const PROGRAMS: [Program; 3] = [
     },
 ];
 
-/// Calls whose files, code and answer are longer in all are left out.
+/// Calls whose files, code and answer are longer in all are left out; of real functions those whose answer is.
 const LONGEST: usize = 12_000;
 
 pub struct WrongRecording {
@@ -132,7 +132,8 @@ fn choose(
 ) {
     let call = &recorded.call;
     let weight = weight(recorded);
-    if !program.functions.contains(&call.function) || weight > LONGEST && real.is_none() {
+    let long = if real.is_some() { recorded.said.len() } else { weight } > LONGEST;
+    if !program.functions.contains(&call.function) || long {
         return;
     }
     for kind in kinds(call.function, recorded.said) {

@@ -69,22 +69,28 @@ unfolding targetCall targetOf opcodes opcode typed types padded four fours layou
     numberOf distanceBy jumpTarget
 target-cases = refl
 
--- 01's switch with and without its pool
+-- 01's switch with and without its pool, and both under Wide
 abbrev switch : List ℕ
 switch = 0x09 ∷ 0x00 ∷ 0x02 ∷ 0x05 ∷ 0x0b ∷ []
+
+abbrev wideSwitch : List ℕ
+wideSwitch = 0x00 ∷ 0x09 ∷ 0x00 ∷ 0x00 ∷ 0x02 ∷ 0x00 ∷ 0x05 ∷ 0x00 ∷ 0x0b ∷ []
 
 pub table-cases :
     (tableCall (files opcodes) (object.Object 0) switch 0
     ∷ tableCall (files opcodes) object.Nothing switch 0
+    ∷ tableCall (files opcodes) (object.Object 0) wideSwitch 0
+    ∷ tableCall (files opcodes) object.Nothing wideSwitch 0
     ∷ [])
-    ≡ (table-answer.At (record { start = 0; count = 2; base = pos 5 }) ∷ table-answer.Nothing ∷ [])
+    ≡ (table-answer.At (record { start = 0; count = 2; base = pos 5 }) ∷ table-answer.Nothing ∷ table-answer.At (record { start = 0; count = 2; base = pos 5 }) ∷ table-answer.Nothing
+    ∷ [])
 unfolding tableCall tableOf opcodes opcode typed types padded four fours layout checkTable wholeRecords within firstFrom nameOk opcodeOk sizeFits sizeGood nameFits isNamed typeNames
     ranges rangeOf leAt checkStore sizesOk objectOk slotOk valueOk fieldsOk falls fallsIn objectOf slotOf layoutOf poolBy slotAt decodeAt headAt
     firstMarked readParts partsFrom width isList kinds kindOf ofKind interpret modulo wrap32 signed nameAt flowNames flows flowNumber flowBy operandOf indexOf
     numberOf jumpTable tableBy sizedBy
 table-cases = refl
 
--- its entries: one shown, the reference, none; without its pool; what is no switch; the code's end
+-- its entries: one shown, the reference, none; without its pool; what is no switch; the code's end; the one shown and the reference under Wide
 pub entry-cases :
     (entryCall (files opcodes) (object.Object 0) switch 0 0
     ∷ entryCall (files opcodes) (object.Object 0) switch 0 1
@@ -92,8 +98,11 @@ pub entry-cases :
     ∷ entryCall (files opcodes) object.Nothing switch 0 0
     ∷ entryCall (files opcodes) (object.Object 0) switch 4 0
     ∷ entryCall (files opcodes) (object.Object 0) switch 5 0
+    ∷ entryCall (files opcodes) (object.Object 0) wideSwitch 0 0
+    ∷ entryCall (files opcodes) (object.Object 0) wideSwitch 0 1
     ∷ [])
-    ≡ (entry-answer.Shown (pos 5) 4 ∷ entry-answer.Skipped ∷ entry-answer.Beyond ∷ entry-answer.Nothing ∷ entry-answer.Nothing ∷ entry-answer.End ∷ [])
+    ≡ (entry-answer.Shown (pos 5) 4 ∷ entry-answer.Skipped ∷ entry-answer.Beyond ∷ entry-answer.Nothing ∷ entry-answer.Nothing ∷ entry-answer.End
+    ∷ entry-answer.Shown (pos 5) 5 ∷ entry-answer.Skipped ∷ [])
 unfolding entryCall tableCall tableOf opcodes opcode typed types padded four fours layout checkTable wholeRecords within firstFrom nameOk opcodeOk sizeFits sizeGood nameFits isNamed typeNames
     ranges rangeOf leAt checkStore sizesOk objectOk slotOk valueOk fieldsOk falls fallsIn objectOf slotOf layoutOf poolBy slotAt poolElem elemAt down smiBytes decodeAt headAt
     firstMarked readParts partsFrom width isList kinds kindOf ofKind interpret modulo wrap32 signed nameAt flowNames flows flowNumber flowBy operandOf indexOf
@@ -113,6 +122,14 @@ unfolding tableCall tableOf opcode typed types padded four fours layout checkTab
     firstMarked readParts partsFrom width isList kinds kindOf ofKind interpret modulo wrap32 signed nameAt flowNames flows flowNumber flowBy operandOf indexOf
     numberOf jumpTable tableBy sizedBy
 sixteen-case = refl
+
+-- under Wide too
+pub sixteen-wide : tableCall (files (opcode "Wide" 1 [] ++ signedSwitch)) (object.Object 0) (0x00 ∷ 0x01 ∷ 0x00 ∷ 0x00 ∷ 0x01 ∷ 0x10 ∷ 0x05 ∷ 0x00 ∷ []) 0 ≡ table-answer.Refused (refusalAt 16 0)
+unfolding tableCall tableOf opcode typed types padded four fours layout checkTable wholeRecords within firstFrom nameOk opcodeOk sizeFits sizeGood nameFits isNamed typeNames
+    ranges rangeOf leAt checkStore sizesOk objectOk slotOk valueOk fieldsOk falls fallsIn objectOf slotOf layoutOf poolBy slotAt decodeAt headAt
+    firstMarked readParts partsFrom width isList kinds kindOf ofKind interpret modulo wrap32 signed nameAt flowNames flows flowNumber flowBy operandOf indexOf
+    numberOf jumpTable tableBy sizedBy
+sixteen-wide = refl
 
 pub sixteen-target : targetCall (files signedSwitch) (object.Object 0) twoSwitches 4 ≡ target-answer.Nothing
 unfolding targetCall targetOf opcode typed types padded four fours layout checkTable wholeRecords within firstFrom nameOk opcodeOk sizeFits sizeGood nameFits isNamed typeNames

@@ -100,7 +100,6 @@ struct Seen {
     same: bool,
 }
 
-// A switch with a table has no prefix: its distances count from its place.
 fn are_entries(bytes: &[u8], files: Files, call: &[u8], entries: Entries) -> bool {
     let slots = file(bytes, files, 6);
     let layout = tables::layout_of(file(bytes, files, 4));
@@ -109,10 +108,22 @@ fn are_entries(bytes: &[u8], files: Files, call: &[u8], entries: Entries) -> boo
         file(bytes, files, 7),
         layout.tagged_size,
         function::lent_pool(file(bytes, files, 5), slots, layout, pool_object(call)),
-        words::u64_at(call, 8),
+        here_of(bytes, files, call),
         entries,
         behind(call, 16),
     )
+}
+
+// Where the switch's distances count from.
+fn here_of(bytes: &[u8], files: Files, call: &[u8]) -> u64 {
+    let decoded = bytecode::decode_unchecked(
+        file(bytes, files, 0),
+        file(bytes, files, 1),
+        file(bytes, files, 4),
+        file(bytes, files, 8),
+        words::u64_at(call, 8) as usize,
+    );
+    targets::here(decoded.instr)
 }
 
 // Status 1, the number of entries shown, then case and target of each.

@@ -23,9 +23,9 @@ pub fn list(bytes: &[u8], files: Files, call: &[u8]) -> bool {
     list_in(bytes, files, call, &mut out)
 }
 
-// 22: with 131,072 bytes lent.
+// 22: with 262,144 bytes lent.
 pub fn long_list(bytes: &[u8], files: Files, call: &[u8]) -> bool {
-    let mut out = [7u8; 131072];
+    let mut out = [7u8; 262144];
     list_in(bytes, files, call, &mut out)
 }
 

@@ -54,9 +54,9 @@ pub fn list(bytes: &[u8], files: Files, out: &mut [u8; 65536]) -> usize {
     )
 }
 
-// 22: the listing, in a buffer of 131,072 bytes.
+// 22: the listing, in a buffer of 262,144 bytes.
 pub fn long_listing(bytes: &[u8], files: Files, call: &[u8]) -> bool {
-    let mut out = [0u8; 131072];
+    let mut out = [0u8; 262144];
     long_listing_in(bytes, files, call, &mut out)
 }
 

@@ -12,7 +12,7 @@ pub fn show(number: u64, code: &[u8], walked: Walked) {
     }
 }
 
-// Calls by their order in oracle/src/walk_recording.rs; of each row one of its four.
+// Calls by their order in oracle/src/walk_recording.rs; of each row one of its four, of each switch under a prefix one of its three.
 fn print_name(number: u64) -> bool {
     match number {
         1..=32 => number % 4 == 2 && put(b"row"),
@@ -21,6 +21,8 @@ fn print_name(number: u64) -> bool {
         1125..=1128 => put(b"200 loops"),
         1129..=1131 => put(b"switch of 4095 to 4097 entries"),
         1138..=1141 => put(b"straight line"),
+        1146..=1217 => number % 3 == 0 && put(b"switch under a prefix"),
+        1218..=1221 => put(b"switch of 4096 and 4097 entries under a prefix"),
         _ => false,
     }
 }

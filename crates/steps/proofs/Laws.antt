@@ -1,9 +1,8 @@
 -- What is kept of an instruction, by its kind. Assumes nothing.
 use Prim.Native.Nat.{ℕ, _≤_}
 use mathlib.Core.Path.{_≡_, refl, sym, ap}
-use mathlib.Core.Bool.{Bool, true, false, cond, _&&_}
+use mathlib.Core.Bool.{Bool, true, false, cond}
 use native.Mathlib.Omega.{arith}
-use lib.Dec.{eqb}
 use Rattle.decoder.specs.declared.Instr.{Instr}
 use Rattle.flow.specs.declared.Flow.{Flow}
 use Rattle.flow.specs.declared.Kind.{Kind}
@@ -28,7 +27,7 @@ isRefused table.Refused = true
 
 pub refused-is : (el : ℕ → Elem) (pooled : Bool) (flow : Flow) (i : Instr) (size : ℕ) → keptOf el pooled flow i size .refused ≡ isRefused (jumpTable pooled flow i)
 unfolding keptOf jumpTable
-refused-is el pooled flow i size = go (flow .kind) (eqb (i .scale) 1) (jumpTarget el flow i) _ (prefixOf (i .scale))
+refused-is el pooled flow i size = go (flow .kind) (jumpTarget el flow i) _ (prefixOf (i .scale))
   where
     of-table : (t : Table) (prefix : ℕ) → keptTable t prefix size .refused ≡ isRefused t
     of-table table.Nothing prefix = refl
@@ -36,13 +35,13 @@ refused-is el pooled flow i size = go (flow .kind) (eqb (i .scale) 1) (jumpTarge
     of-table table.Refused prefix = refl
 
     -- only a switch has a table
-    go : (k : Kind) (b : Bool) (T : Target) (t : Table) (prefix : ℕ) → let u = cond (isSwitch k && b) t table.Nothing in keptBy k T u prefix size .refused ≡ isRefused u
-    go On b T t prefix = refl
-    go Ends b T t prefix = refl
-    go Jumps b T t prefix = refl
-    go Branches b T t prefix = refl
-    go JumpsBack b T t prefix = refl
-    go Switch b T t prefix = of-table (cond b t table.Nothing) prefix
+    go : (k : Kind) (T : Target) (t : Table) (prefix : ℕ) → let u = cond (isSwitch k) t table.Nothing in keptBy k T u prefix size .refused ≡ isRefused u
+    go On T t prefix = refl
+    go Ends T t prefix = refl
+    go Jumps T t prefix = refl
+    go Branches T t prefix = refl
+    go JumpsBack T t prefix = refl
+    go Switch T t prefix = of-table t prefix
 
 -- a head is at least the size
 pub head-most : (el : ℕ → Elem) (pooled : Bool) (flow : Flow) (i : Instr) (size : ℕ) → size ≤ keptOf el pooled flow i size .head

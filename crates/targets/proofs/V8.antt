@@ -141,17 +141,17 @@ module _ (el : ℕ → Elem) (pool : ConstantPool) (same : SamePool el pool) (of
             rw (s, more (h .2))
         go false t h more = rw (skipped-entry k (rw p at t)) (more h)
 
--- the table of an unprefixed switch
-module _ (i : Instr) (scale : i .scale ≡ 1) (start n : ℕ) (few : n ≤ 4096) where
+-- the table of a switch, at any scale
+module _ (i : Instr) (start n : ℕ) (few : n ≤ 4096) where
   smi-table : (c : ℤ) → wrap32 c ≡ c → operandOf i 0 ≡ Idx start → operandOf i 1 ≡ Idx n → operandOf i 2 ≡ Imm c
       → jumpTable true (switchFlow switchOnSmiNoFeedback) i ≡ table.At (record { start = start; count = n; base = c })
   unfolding jumpTable tableBy sizedBy indexOf operandOf
-  smi-table c w f g k = rw (scale, index-of f, number-of g, base-of k, le-leb n 4096 few, w)
+  smi-table c w f g k = rw (index-of f, number-of g, base-of k, le-leb n 4096 few, w)
 
   generator-table : operandOf i 1 ≡ Idx start → operandOf i 2 ≡ Idx n
       → jumpTable true (switchFlow switchOnGeneratorState) i ≡ table.At (record { start = start; count = n; base = pos 0 })
   unfolding jumpTable tableBy sizedBy wrap32 modulo indexOf operandOf
-  generator-table f g = rw (scale, index-of f, number-of g, le-leb n 4096 few)
+  generator-table f g = rw (index-of f, number-of g, le-leb n 4096 few)
 
 -- ---- the instruction that is decoded
 module _ (offset opcode scale end : ℕ) where
@@ -226,26 +226,26 @@ module _ (b : Bytecodes) (code : List ℕ) (ops : Opcodes) (types : List ℕ) (r
       ap (jumpTarget el (jumpFlow jumpConstant c)) (instr-is us e)
       ∙ constant el pool same offset prefix z (told us) (here-is us) (natAbs (z 0 kIdx)) (at us 0 (omega arith) (omega arith)) c refl h s
 
-  -- an unprefixed switch has V8's table, and shows V8's entries
-  pub v8-switch : (s : Switch) (ts : List OperandType) → currentTypes b code offset ≡ switchTypes s ++ ts → operandScale b code offset ≡ 1
-      → v8Table z s .count ≤ 4096 → Held (getJumpTableTargetOffsets offset prefix z pool s)
+  -- a switch, under a prefix or not, has V8's table, and shows V8's entries
+  pub v8-switch : (s : Switch) (ts : List OperandType) → currentTypes b code offset ≡ switchTypes s ++ ts → v8Table z s .count ≤ 4096
+      → Held (getJumpTableTargetOffsets offset prefix z pool s)
       → (jumpTable true (switchFlow s) instr ≡ table.At (v8Table z s))
       × (shownEntries el (here instr) (v8Table z s) 0 (v8Table z s .count) ≡ v8Entries (getJumpTableTargetOffsets offset prefix z pool s))
   unfolding shownOperand codeOf typeInfo isUnsigned wrap32 modulo
-  v8-switch switchOnGeneratorState ts e one few h =
+  v8-switch switchOnGeneratorState ts e few h =
       let us = kReg ∷ kIdx ∷ kUImm ∷ ts in
       let t = v8Table z switchOnGeneratorState in (
         ap (jumpTable true (switchFlow switchOnGeneratorState)) (instr-is us e)
-            ∙ generator-table (told us) one (t .start) (t .count) few (at us 1 (omega arith) (omega arith)) (at us 2 (omega arith) (omega arith)),
+            ∙ generator-table (told us) (t .start) (t .count) few (at us 1 (omega arith) (omega arith)) (at us 2 (omega arith) (omega arith)),
         ap (λ (i : Instr). shownEntries el (here i) t 0 (t .count)) (instr-is us e)
             ∙ entries-same el pool same offset prefix z (told us) (here-is us) t (pos 0) refl 0 (t .count) (t .start) (pos 0) (omega arith) refl h,
       )
-  v8-switch switchOnSmiNoFeedback ts e one few h =
+  v8-switch switchOnSmiNoFeedback ts e few h =
       let us = kIdx ∷ kUImm ∷ kImm ∷ ts in
       let t = v8Table z switchOnSmiNoFeedback in
       let w = operand-int b code offset bytes 2 kImm refl in (
         ap (jumpTable true (switchFlow switchOnSmiNoFeedback)) (instr-is us e)
-            ∙ smi-table (told us) one (t .start) (t .count) few (t .base) w (at us 0 (omega arith) (omega arith)) (at us 1 (omega arith) (omega arith)) (at us 2 (omega arith) (omega arith)),
+            ∙ smi-table (told us) (t .start) (t .count) few (t .base) w (at us 0 (omega arith) (omega arith)) (at us 1 (omega arith) (omega arith)) (at us 2 (omega arith) (omega arith)),
         ap (λ (i : Instr). shownEntries el (here i) t 0 (t .count)) (instr-is us e)
             ∙ entries-same el pool same offset prefix z (told us) (here-is us) t (t .base) (sym w) 0 (t .count) (t .start) (t .base) (omega arith) (sym (+ℤ-idr (t .base))) h,
       )

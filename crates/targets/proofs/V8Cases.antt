@@ -1,4 +1,4 @@
--- V8's names have the flows of V8's jumps and switches; and where V8's targets are not ours: 01's sample, computed. Assumes nothing.
+-- V8's names have the flows of V8's jumps and switches; where V8's targets are not ours, and a prefixed switch: 01's sample, computed. Assumes nothing.
 use Prim.Native.Nat.{ℕ}
 use mathlib.Core.Path.{_≡_, refl}
 use mathlib.Core.Bool.{true, false}
@@ -6,17 +6,20 @@ use mathlib.Core.List.{List, [], _∷_, map}
 use lib.IntN.{ℤ, pos, negsuc}
 use lib.ListN.{getD, replicate}
 use Rattle.laws.specs.Scan.{firstFrom}
-use Rattle.words.specs.Signed.{modulo}
+use Rattle.words.specs.Signed.{modulo, wrap32}
 use Rattle.tables.specs.Names.{isNamed}
 use Rattle.operand.specs.declared.Operand.the-variants.{Nothing, Idx, Imm}
+use Rattle.decoder.specs.declared.Instr.{Instr}
 use Rattle.decoder.specs.Decode.{instrOf}
 use Rattle.decoder.specs.V8.{Bytecodes, typeInfo, isScalable, isUnsigned, unscaledSize, prefixSize, getOperand}
 use Rattle.decoder.specs.V8.OperandType.{kIdx, kUImm, kImm}
 use Rattle.flow.specs.Flow.{flowNames, flows, flowNumber, flowBy}
 use Rattle.serializer.specs.declared.Elem.the-variants as elem
 use Rattle.targets.specs.declared.Target.the-variants as target
+use Rattle.targets.specs.declared.Entries.{Entries}
 use Rattle.targets.specs.declared.Table.the-variants as table
-use Rattle.targets.specs.Targets.{operandOf, numberOf, distanceBy, jumpTarget, jumpTable}
+use Rattle.targets.specs.declared.Entry.the-variants as entry
+use Rattle.targets.specs.Targets.{operandOf, here, indexOf, numberOf, distanceBy, jumpTarget, sizedBy, tableBy, jumpTable, entryAt}
 use Rattle.targets.specs.V8.{Jump, conditionalImmediates, conditionalConstants, ConstantPool, getJumpTargetOffset, getJumpTableTargetOffsets}
 use Rattle.targets.specs.V8.Jump.{jumpLoop, jumpImmediate, jumpConstant}
 use Rattle.targets.specs.V8.Switch.{switchOnGeneratorState, switchOnSmiNoFeedback}
@@ -61,11 +64,18 @@ far-parts : (target-of (0x01 ∷ 0x05 ∷ 0x00 ∷ 0x00 ∷ 0x00 ∷ 0x80 ∷ []
 unfolding typeInfo isScalable isUnsigned unscaledSize jumpTarget distanceBy numberOf operandOf modulo
 far-parts = (refl, refl)
 
--- `00 09 00 00 01 00 00 00`: V8 shows the entry of a prefixed switch, we none
+-- `00 09 00 00 01 00 05 00`: the entry of a switch under a prefix counts from behind it, in V8 and here
 abbrev wide-switch : List ℕ
-wide-switch = 0x00 ∷ 0x09 ∷ 0x00 ∷ 0x00 ∷ 0x01 ∷ 0x00 ∷ 0x00 ∷ 0x00 ∷ []
+wide-switch = 0x00 ∷ 0x09 ∷ 0x00 ∷ 0x00 ∷ 0x01 ∷ 0x00 ∷ 0x05 ∷ 0x00 ∷ []
 
-switch-parts : (getJumpTableTargetOffsets 0 (prefixSize v8 wide-switch 0) (getOperand v8 wide-switch 0) pool switchOnSmiNoFeedback ≡ record { caseValue = pos 0; targetOffset = pos 5 } ∷ [])
-    × (jumpTable true (switchFlow switchOnSmiNoFeedback) (instrOf 0 9 2 8 (Idx 0 ∷ Idx 1 ∷ Imm (pos 0) ∷ [])) ≡ table.Nothing)
-unfolding typeInfo isScalable isUnsigned unscaledSize jumpTable
-switch-parts = (refl, refl)
+abbrev wide-instr : Instr
+wide-instr = instrOf 0 9 2 8 (Idx 0 ∷ Idx 1 ∷ Imm (pos 5) ∷ [])
+
+abbrev wide-table : Entries
+wide-table = record { start = 0; count = 1; base = pos 5 }
+
+switch-same : (getJumpTableTargetOffsets 0 (prefixSize v8 wide-switch 0) (getOperand v8 wide-switch 0) pool switchOnSmiNoFeedback ≡ record { caseValue = pos 5; targetOffset = pos 5 } ∷ [])
+    × (jumpTable true (switchFlow switchOnSmiNoFeedback) wide-instr ≡ table.At wide-table)
+    × (entryAt (λ n. elem.Smi (pos 4)) (here wide-instr) wide-table 0 ≡ entry.Shown (pos 5) 5)
+unfolding typeInfo isScalable isUnsigned unscaledSize jumpTable tableBy sizedBy indexOf numberOf operandOf entryAt wrap32 modulo
+switch-same = (refl, refl, refl)

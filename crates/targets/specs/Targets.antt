@@ -1,9 +1,9 @@
 -- Where an instruction goes: the Rust's `jump_target` and `jump_table`; V8: BytecodeArrayIterator::GetJumpTargetOffset, GetAbsoluteOffset,
 -- GetJumpTableTargetOffsets. `elem` gives the elements of the constant pool.
 use Prim.Native.Nat.{ℕ, _+_, _%_, _^_, min}
-use mathlib.Core.Bool.{Bool, true, false, cond, _&&_}
+use mathlib.Core.Bool.{Bool, true, false, cond}
 use mathlib.Core.List.{List}
-use lib.Dec.{eqb, ltb, leb}
+use lib.Dec.{ltb, leb}
 use lib.ListN.{getD}
 use lib.IntN.{ℤ, pos, negsuc, natAbs, _+ℤ_, _-ℤ_}
 use Rattle.words.specs.Signed.{modulo, wrap32}
@@ -138,10 +138,10 @@ isSwitch Switch = true
 abbrev pub baseOf : Bool → Operand → Number
 baseOf based op = cond based (numberOf op) (number.Is (pos 0))
 
--- "only the two unprefixed switch names have entries"
+-- Wish 1: "entries for both switch names under either prefix", so at every scale
 unfoldable pub jumpTable : Bool → Flow → Instr → Table
 jumpTable pooled flow i =
-    cond (isSwitch (flow .kind) && eqb (i .scale) 1)
+    cond (isSwitch (flow .kind))
     (tableBy pooled (indexOf (operandOf i (flow .first))) (numberOf (operandOf i (flow .first + 1))) (baseOf (flow .base) (operandOf i (flow .first + 2))))
     table.Nothing
 

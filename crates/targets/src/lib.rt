@@ -154,15 +154,12 @@ pub fn jump_target_in(
     target_by(kind, here(instr), d)
 }
 
-// The table of a switch.
+// The table of a switch, with a prefix or without.
 pub fn jump_table_unchecked(pool: Pool, flow: Flow, instr: Instr) -> Table
     ensures { λ r. ⌜ r ≡ jumpTable (found pool) flow instr ⌝ }
 {
     let kind = flow.kind;
     if !is_switch(kind) {
-        return Table::Nothing;
-    }
-    if instr.scale != 1 {
         return Table::Nothing;
     }
     let first = flow.first;

@@ -31,6 +31,8 @@ pub struct Report {
     /// Of the walks that are answered: closed, leaving.
     pub closed: u64,
     pub leaving: u64,
+    /// Listings, alike, that show entries of a switch under a prefix.
+    pub prefixed: u64,
     pub not_comparable: u64,
     pub differences: Vec<String>,
     pub more: u64,
@@ -48,6 +50,7 @@ impl Report {
         }
         self.closed += other.closed;
         self.leaving += other.leaving;
+        self.prefixed += other.prefixed;
         self.not_comparable += other.not_comparable;
         self.differences.extend(other.differences);
         self.more += other.more;
@@ -62,6 +65,9 @@ impl Report {
         let mut out = none("listing", &OF_LISTING, &self.listed);
         out.extend(none("instruction", &OF_DECODING, &self.decoded));
         out.extend(none("walk check", &OF_WALKS, &self.walked));
+        if whole && self.prefixed == 0 {
+            out.push("no listing shows entries of a switch under a prefix".into());
+        }
         out
     }
 }
@@ -89,6 +95,7 @@ impl fmt::Display for Report {
             "walk checks that are answered: {} closed, {} leave",
             self.closed, self.leaving
         )?;
+        writeln!(f, "listings with entries of a switch under a prefix: {}", self.prefixed)?;
         writeln!(f, "not comparable (two types of one name): {}", self.not_comparable)?;
         for line in self.missing(true) {
             writeln!(f, "{line}")?;
@@ -214,6 +221,7 @@ impl Compare {
         let same = self.ours.list(files, room) == rust;
         if same {
             self.report.listed[rust.number()] += 1;
+            self.report.prefixed += rust.shows_prefixed() as u64;
         }
         same
     }
@@ -451,7 +459,7 @@ mod tests {
         let report = Report::default();
         assert_eq!(
             report.missing(true).len(),
-            OF_LISTING.len() + OF_DECODING.len() + OF_WALKS.len()
+            OF_LISTING.len() + OF_DECODING.len() + OF_WALKS.len() + 1
         );
         assert!(report.to_string().ends_with("0 differences\n"));
     }

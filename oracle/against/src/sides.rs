@@ -6,6 +6,7 @@ use oracle::checks::{self, Refusal};
 use oracle::decode;
 use oracle::port::{Port, TABLE};
 use oracle::records::*;
+use oracle::switches;
 use oracle::walks::{self, Outcome};
 
 /// What a side says.
@@ -37,6 +38,14 @@ impl Said {
             Said::Walked(_, marks) => marks.len(),
             _ => 0,
         }
+    }
+
+    /// Whether a listing shows an entry of a switch under a prefix.
+    pub fn shows_prefixed(&self) -> bool {
+        let Said::Text(text) = self else { return false };
+        let text = String::from_utf8_lossy(text);
+        text.lines()
+            .any(|line| line.contains(" Switch") && line.contains("Wide ") && line.contains(": @"))
     }
 
     pub fn shown(&self) -> String {
@@ -216,7 +225,8 @@ impl Rust {
         Ok(said.unwrap_or_else(Said::from))
     }
 
-    /// The walks of object 0, with so many marks: the check of `oracle::walks`, over the Rust's decoding, targets and entries.
+    /// The walks of object 0, with so many marks: the check of `oracle::walks`, over the Rust's decoding, targets and entries, and
+    /// `oracle::switches`.
     pub fn walk(&mut self, files: &Files, room: usize) -> Result<Said, NotComparable> {
         let held = &mut self.listing;
         held.set(files, &[OPCODES, TYPES, RUNTIME, INTRINSIC, LAYOUT])?;
@@ -268,20 +278,17 @@ static NO_STORE: Files = Files {
     ],
 };
 
-/// Header and instruction lines of `render_sfi`, after rows 8, 9 and 11 to 17.
+/// Header and instruction lines of `render_sfi`, with the entries of switches under a prefix (`oracle::switches`), after rows 8, 9 and 11 to 17.
 fn listing(port: &Port, files: &Files, room: usize) -> Result<Said, Refusal> {
     let function = checks::function(files, 0)?;
     checks::code_length(port.code_length(function))?;
-    for ins in &decode::all(port, port.code(function))? {
+    let listed = decode::all(port, port.code(function))?;
+    for ins in &listed {
         checks::switch(port, function, ins)?;
     }
-    let mut whole = String::new();
-    let dis = port.disassembler();
-    dis.open_render_sfi(port.shared_function_info(), "", &mut whole).expect("the code decodes");
-    let from = whole.find('\n').map_or(0, |at| at + 1);
-    let to = whole[from..].find("\nConstant pool").map_or(whole.len(), |at| from + at + 1);
-    checks::output(to - from, room)?;
-    Ok(Said::Text(whole.as_bytes()[from..to].to_vec()))
+    let listing = switches::listing(port, &listed).expect("the code decodes");
+    checks::output(listing.len(), room)?;
+    Ok(Said::Text(listing.into_bytes()))
 }
 
 /// The walk check, after rows 8 and 9.

@@ -1,4 +1,3 @@
-use borrow.Author.Tests.{eq-eqb, ne-eqb}
 use Rattle.laws.proofs.Tests.{fell, held}
 use Rattle.targets.specs.Targets.{jumpTable}
 use borrow.Author.Needs.{needs}
@@ -11,10 +10,6 @@ is-switch-requires c κs = search needs
 returns : tie.Need-returns
 unfolding jumpTable
 returns c = rw (fell (c .before .is-switch .ensures) (c .if1 .taken))
-
-returns-2 : tie.Need-returns-2
-unfolding jumpTable
-returns-2 c = rw (held (c .before .before .before .is-switch .ensures) (c .before .before .if1 .left), ne-eqb _ _ (c .if2 .taken))
 
 operand-of-requires : tie.Need-operand-of-requires
 operand-of-requires c κs = search needs
@@ -37,9 +32,9 @@ base-of-requires c κs = search needs
 table-by-requires : tie.Need-table-by-requires
 table-by-requires c κs = search needs
 
-returns-3 : tie.Need-returns-3
+returns-2 : tie.Need-returns-2
 unfolding jumpTable
-returns-3 c = rw (held (c .before .before .before .before .before .before .before .before .before .before .is-switch .ensures) (c .before .before .before .before .before .before .before .before .before .if1 .left), eq-eqb _ _ (c .before .before .before .before .before .before .before .if2 .left), ← c .before .before .before .before .before .before .operand-of .ensures, ← c .before .before .before .before .before .index-of .ensures, ← c .before .before .before .before .operand-after .ensures, ← c .before .before .before .number-of .ensures, ← c .before .before .operand-after2 .ensures, ← c .before .base-of .ensures) (c .table-by .ensures)
+returns-2 c = rw (held (c .before .before .before .before .before .before .before .before .is-switch .ensures) (c .before .before .before .before .before .before .before .if1 .left), ← c .before .before .before .before .before .before .operand-of .ensures, ← c .before .before .before .before .before .index-of .ensures, ← c .before .before .before .before .operand-after .ensures, ← c .before .before .before .number-of .ensures, ← c .before .before .operand-after2 .ensures, ← c .before .base-of .ensures) (c .table-by .ensures)
 
 pub jump-table-unchecked-spec : {M : Type 1} → statement M
 jump-table-unchecked-spec =
@@ -47,7 +42,6 @@ jump-table-unchecked-spec =
     (tie.spec
     is-switch-requires
     returns
-    returns-2
     operand-of-requires
     index-of-requires
     operand-after-requires
@@ -55,4 +49,4 @@ jump-table-unchecked-spec =
     operand-after-requires-2
     base-of-requires
     table-by-requires
-    returns-3)
+    returns-2)
