@@ -1,0 +1,1 @@
+// An instruction written: scale, opcode and operands in, bytes out.
