@@ -75,3 +75,16 @@ bytes-of-le s bytes (suc w) i h =
     let high : (b + 256 * r) / 256 ≡ r = omega (arith, bytes i) in
     let e : suc i ≡ i + 1 = omega arith in
     rw (low, high, bytes-of-le s bytes w (i + 1) (omega arith), drop-cons s i 0 (omega arith), e)
+
+-- as a loop puts them: the next byte, and none at the end
+pub next-byte : (m k v : ℕ) → k < m → leBytes (m - k) v ≡ (v % 256 ∷ []) ++ leBytes (m - (k + 1)) (v / 256)
+unfolding leBytes
+next-byte m k v h = let e : m - k ≡ suc (m - (k + 1)) = omega arith in rw e
+
+pub no-byte : (m k v : ℕ) → m ≤ k → leBytes (m - k) v ≡ []
+unfolding leBytes
+no-byte m k v h = let e : m - k ≡ 0 = omega arith in rw e
+
+-- a number of at most 64 bits is whole at a width of 8 and more
+pub eight : (n w : ℕ) → 8 ≤ w → n < 2 ^ 64 → n ≡ n % 256 ^ min w 8
+eight n w h l = let e : min w 8 ≡ 8 = omega arith in rw e (sym (mod-eq-of-lt l))

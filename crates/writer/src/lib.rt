@@ -105,7 +105,8 @@ fn operands_ok(opcodes: &[u8], types: &[u8], start: i32, instr: Instr) -> bool
                 return false;
             }
             let place = operands[j];
-            if !reads_back(types, instr.scale, start, t, place.operand) {
+            let op = place.operand;
+            if !reads_back(types, instr.scale, start, t, op) {
                 return false;
             }
             j += 1;
@@ -228,7 +229,8 @@ fn put_operands(
                 return p;
             }
             let place = operands[j];
-            p = put_operand(out, p, types, instr.scale, start, t, place.operand);
+            let op = place.operand;
+            p = put_operand(out, p, types, instr.scale, start, t, op);
             j += 1;
         }
         before = t;
