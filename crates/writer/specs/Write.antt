@@ -75,7 +75,7 @@ abbrev pub checkWrite : Opcodes → List ℕ → ℤ → Instr → Check
 checkWrite ops types rfs i =
     firstRefusal (refuseUnless (scaleOk ops (i .scale)) 21)
     (firstRefusal (refuseUnless (opcodeFits ops (i .scale) (i .opcode)) 22)
-    (refuseUnless (leb (i .count) (length (i .operands)) && operandsOk types (i .scale) rfs false (operandTypes ops (i .opcode)) (given i)) 23))
+    (refuseUnless (leb (i .count) 8 && operandsOk types (i .scale) rfs false (operandTypes ops (i .opcode)) (given i)) 23))
 
 -- what the call writes. It is lent no name files; of the instruction neither offset nor end is read.
 abbrev pub writtenBytes : Opcodes → List ℕ → ℤ → Instr → List ℕ
