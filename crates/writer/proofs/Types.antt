@@ -1,5 +1,5 @@
 -- The operands of a list of types, written and read back. Assumes nothing.
-use Prim.Native.Nat.{ℕ, _+_, _-_, _%_, _^_, _≤_}
+use Prim.Native.Nat.{ℕ, _+_, _%_, _^_, _≤_}
 use mathlib.Core.Path.{_≡_, refl, sym, ap, _∙_}
 use mathlib.Core.Bool.{Bool, true, false, cond, _&&_}
 use mathlib.Core.List.{List, [], _∷_, _++_, append-assoc, append-nil}
@@ -26,11 +26,8 @@ use Rattle.decoder.proofs.Agree.Got.{bad, good}
 use Rattle.writer.specs.Bytes.{storedOf, countOf, operandBytes, bytesBy}
 use Rattle.writer.specs.Write.{sameOperand, backAs, readsBack, operandsOk}
 use Rattle.writer.specs.Narrow.{Narrow, AllNarrow}
+use Rattle.writer.proofs.Spans.{front, Spans, spans-none, spans-more}
 use Rattle.writer.proofs.Operands.{same-itself, same-one, back-same, stored-low}
-
--- two pieces between a front and a rest
-pub front : (s a b u : List ℕ) → s ++ ((a ++ b) ++ u) ≡ (s ++ a) ++ (b ++ u)
-front s a b u = ap (λ (l : List ℕ). s ++ l) (append-assoc a b u) ∙ sym (append-assoc s a (b ++ u))
 
 -- a list is of the kind that keeps its count
 list-kind : (t : ℕ) → isList t ≡ true → kindOf t ≡ list
@@ -259,25 +256,6 @@ module _ (types : List ℕ) (scale : ℕ) (rfs : ℤ) where
         ∙ and-both (operand-back t at) (read-accepted ts (isList t) (at + sizeOf t) e (n .rest) (n .reads)))
         (either (eqb t 8 && after))
 
-    -- what stands from place at to place e, of a code that reaches so far
-    pub record Spans (at e : ℕ) (l : List ℕ) : Type 0 where
-      pub rises : at ≤ e
-      pub inside : at ≤ length code → e ≤ length code
-      pub is : l ≡ take (e - at) (drop at code)
-
-    pub spans-none : (at : ℕ) → Spans at at []
-    spans-none at = let z : at - at ≡ 0 = omega arith in record { rises = omega arith; inside = λ h. h; is = rw z }
-
-    -- w bytes in front of others
-    pub spans-more : (at w e : ℕ) (b l : List ℕ) → at + w ≤ length code → b ≡ take w (drop at code) → Spans (at + w) e l → Spans at e (b ++ l)
-    spans-more at w e b l room is rest =
-        let n : e - at ≡ w + (e - (at + w)) = omega (arith, rest .rises) in
-        record {
-          rises = omega (arith, rest .rises);
-          inside = λ h. rest .inside room;
-          is = rw (is, rest .is, n, take-add w (e - (at + w)) (drop at code), drop-drop w at code);
-        }
-
     -- an operand's own bytes are those it was read from, and so are its count's
     own-bytes : (t at c : ℕ) → Narrow (kindOf t) (own t) → at + own t ≤ length code → leBytes (own t) (storedOf rfs (interpret t (leAt code at (own t)) (own t) c rfs)) ≡ take (own t) (drop at code)
     own-bytes t at c narrow room =
@@ -305,9 +283,9 @@ module _ (types : List ℕ) (scale : ℕ) (rfs : ℤ) where
 
     -- where the widths are narrow it is written as the bytes it was read from
     pub read-writes : (ts : List ℕ) (after : Bool) (at e : ℕ) (os : List Operand) → AllNarrow types scale ts → got code types scale rfs after at ts ≡ good e os
-        → Spans at e (bytesBy types scale rfs after ts os)
+        → Spans code at e (bytesBy types scale rfs after ts os)
     unfolding got bytesBy
-    read-writes [] after at e os narrow h = let p : at ≡ e = cc in rw p (spans-none e)
+    read-writes [] after at e os narrow h = let p : at ≡ e = cc in rw p (spans-none code e)
     read-writes (t ∷ ts) after at e os narrow h =
         ⊎-elim (λ (p : (eqb t 8 && after) ≡ true). rw (bytes-skip t ts after os p) (read-writes ts false at e os (narrow .2) (sym (got-skip t ts after code at p) ∙ h)))
         (λ (p : (eqb t 8 && after) ≡ false).
@@ -316,6 +294,6 @@ module _ (types : List ℕ) (scale : ℕ) (rfs : ℤ) where
         let s : bytesBy types scale rfs after (t ∷ ts) os ≡ operandBytes types scale rfs t o ++ bytesBy types scale rfs (isList t) ts (n .rest) =
         ap (bytesBy types scale rfs after (t ∷ ts)) (n .is) ∙ bytes-one t ts after o (n .rest) p in
         rw s
-        (spans-more at (sizeOf t) e (operandBytes types scale rfs t o) (bytesBy types scale rfs (isList t) ts (n .rest)) (n .inside) (operand-bytes t at (narrow .0) (narrow .1) (n .inside))
+        (spans-more code at (sizeOf t) e (operandBytes types scale rfs t o) (bytesBy types scale rfs (isList t) ts (n .rest)) (n .inside) (operand-bytes t at (narrow .0) (narrow .1) (n .inside))
         (read-writes ts (isList t) (at + sizeOf t) e (n .rest) (narrow .2) (n .reads))))
         (either (eqb t 8 && after))
