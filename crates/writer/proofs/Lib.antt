@@ -5,3 +5,5 @@ pub mod Types
 pub mod Heads
 pub mod Round
 pub mod Laws
+pub mod Again
+pub mod Whole

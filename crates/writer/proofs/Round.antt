@@ -8,7 +8,7 @@ use native.Mathlib.Omega.{arith}
 use lib.ListN.{length, take, drop, length-append}
 use lib.IntN.{ℤ}
 use Rattle.words.proofs.Le.{Bytes}
-use Rattle.flow.specs.Opcodes.{Opcodes}
+use Rattle.flow.specs.Opcodes.{Opcodes, prefixWith}
 use Rattle.operand.specs.declared.Operand.{Operand}
 use Rattle.prefix.specs.declared.Head.{Head}
 use Rattle.decoder.specs.declared.Outcome.{Outcome}
@@ -17,6 +17,7 @@ use Rattle.decoder.specs.Decode.{operandTypes, instrOf, readParts, decodeHead, 
 use Rattle.decoder.specs.Listed.{decodes}
 use Rattle.decoder.proofs.Agree.{Got, got, ofGot, readWith, parts-got}
 use Rattle.decoder.proofs.Agree.Got.{bad, good}
+use Rattle.decoder.proofs.Listed.{past}
 use Rattle.writer.specs.Bytes.{bytesBy, headBytes, instrBytes}
 use Rattle.writer.specs.Write.{operandsOk, scaleOk, opcodeFits}
 use Rattle.writer.specs.Narrow.{AllNarrow}
@@ -48,7 +49,7 @@ module _ (ops : Opcodes) (types : List ℕ) (rfs : ℤ) where
       ap (λ (h : Head). decodeHead h code ops types (length s) rfs) head ∙ parts-as code (length s) opcode scale (length s + length H) ∙ ap (ofGot code types scale rfs (length s) opcode []) g
 
   -- ---- what was decoded
-  module _ (code : List ℕ) (bytes : Bytes code) (at : ℕ) (low : at ≤ length code) where
+  module _ (code : List ℕ) (bytes : Bytes code) (at : ℕ) where
     -- it is accepted, and where the widths are narrow it is written as the bytes it was read from
     pub record Back : Type 0 where
       pub scale : ℕ
@@ -61,11 +62,11 @@ module _ (ops : Opcodes) (types : List ℕ) (rfs : ℤ) where
       pub operands-ok : operandsOk types scale rfs false (operandTypes ops opcode) operands ≡ true
       pub bytes-are : AllNarrow types scale (operandTypes ops opcode) → instrBytes ops types rfs scale opcode operands ≡ take (e - at) (drop at code)
 
-    parts-back : (scale opcode place : ℕ) → Headed ops code at scale opcode place → headOf ops code at ≡ Head.Op opcode scale place
+    parts-back : at ≤ length code → (scale opcode place : ℕ) → Headed ops code at scale opcode place → headOf ops code at ≡ Head.Op opcode scale place
         → (g : Got) → got code types scale rfs false place (operandTypes ops opcode) ≡ g → ofGot code types scale rfs at opcode [] g .outcome ≡ Outcome.Done → Back
     unfolding decodeAt instrBytes
-    parts-back scale opcode place h is (bad r) e d = let z : _≡_ {A = ℕ} 0 1 = cc in absurd (omega arith)
-    parts-back scale opcode place h is (good n os) e d = record {
+    parts-back low scale opcode place h is (bad r) e d = let z : _≡_ {A = ℕ} 0 1 = cc in absurd (omega arith)
+    parts-back low scale opcode place h is (good n os) e d = record {
       scale = scale;
       opcode = opcode;
       e = n;
@@ -82,9 +83,12 @@ module _ (ops : Opcodes) (types : List ℕ) (rfs : ℤ) where
     unfolding decodeAt
     read-back done = go (headOf ops code at) refl (head-says ops code at bytes) done
       where
+        low : at ≤ length code
+        low = let p = past code ops types rfs (prefixWith ops 1) (prefixWith ops 2) at done in omega (arith, p .0, p .1)
+
         go : (h : Head) → headOf ops code at ≡ h → HeadSays ops code at h → decodeHead h code ops types at rfs .outcome ≡ Outcome.Done → Back
         go Head.End is says d = let z : _≡_ {A = ℕ} 0 1 = cc in absurd (omega arith)
         go (Head.Refused r) is says d = let z : _≡_ {A = ℕ} 0 1 = cc in absurd (omega arith)
         go (Head.Op opcode scale place) is says d =
-            parts-back scale opcode place says is (got code types scale rfs false place (operandTypes ops opcode)) refl
+            parts-back low scale opcode place says is (got code types scale rfs false place (operandTypes ops opcode)) refl
             (ap (λ (x : Decoded). x .outcome) (sym (parts-as code at opcode scale place)) ∙ d)

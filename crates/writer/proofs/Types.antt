@@ -72,7 +72,7 @@ module _ (types : List ℕ) (scale : ℕ) (rfs : ℤ) where
 
   -- ---- a type in front of others: the RegCount of the list before it, or an operand
   module _ (t : ℕ) (ts : List ℕ) (after : Bool) where
-    ok-skip : (os : List Operand) → (eqb t 8 && after) ≡ true → operandsOk types scale rfs after (t ∷ ts) os ≡ operandsOk types scale rfs false ts os
+    pub ok-skip : (os : List Operand) → (eqb t 8 && after) ≡ true → operandsOk types scale rfs after (t ∷ ts) os ≡ operandsOk types scale rfs false ts os
     unfolding operandsOk
     ok-skip [] h = rw h
     ok-skip (o ∷ os) h = rw h
@@ -81,7 +81,7 @@ module _ (types : List ℕ) (scale : ℕ) (rfs : ℤ) where
     unfolding operandsOk
     ok-none h = rw h
 
-    ok-one : (o : Operand) (os : List Operand) → (eqb t 8 && after) ≡ false
+    pub ok-one : (o : Operand) (os : List Operand) → (eqb t 8 && after) ≡ false
         → operandsOk types scale rfs after (t ∷ ts) (o ∷ os) ≡ (readsBack types scale rfs t o && operandsOk types scale rfs (isList t) ts os)
     unfolding operandsOk
     ok-one o os h = rw h
