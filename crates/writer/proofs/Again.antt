@@ -13,8 +13,11 @@ use lib.IntN.{ℤ}
 use Rattle.laws.proofs.Tests.{and-left, and-right, clash, either}
 use Rattle.words.proofs.Le.{Bytes}
 use Rattle.refusal.specs.declared.Check.the-variants.{Ok}
+use Rattle.text.specs.Written.{putText}
+use Rattle.layout.specs.Layout.{signedValue}
 use Rattle.tables.specs.Records.{width}
-use Rattle.flow.specs.Opcodes.{Opcodes, prefixWith}
+use Rattle.tables.specs.Check.{checkTable}
+use Rattle.flow.specs.Opcodes.{Opcodes, opcodesOf, prefixWith}
 use Rattle.operand.specs.Operand.{kinds, kindOf, isList}
 use Rattle.operand.specs.declared.Operand.{Operand}
 use Rattle.decoder.specs.declared.Instr.{Instr}
@@ -23,7 +26,7 @@ use Rattle.decoder.specs.declared.Decoded.{Decoded}
 use Rattle.decoder.specs.Decode.{codesFrom, operandTypes, recordsOf, instrOf}
 use Rattle.decoder.specs.Listed.{decodes}
 use Rattle.writer.specs.Bytes.{instrBytes}
-use Rattle.writer.specs.Write.{readsBack, operandsOk, scaleOk, operandOf, given, checkWrite, writtenBytes}
+use Rattle.writer.specs.Write.{readsBack, operandsOk, scaleOk, operandOf, given, checkWrite, writtenBytes, writeCall}
 use Rattle.writer.specs.Narrow.{Narrow, AllNarrow}
 use Rattle.writer.specs.Whole.{NarrowAt, NarrowTable}
 use Rattle.writer.proofs.Types.{ok-skip, ok-one}
@@ -124,3 +127,11 @@ module _ (ops : Opcodes) (types : List ℕ) (rfs : ℤ) where
 
     pub again-narrow : NarrowTable types → writtenBytes ops types rfs i ≡ take (i .end - at) (drop at code)
     again-narrow small = written-again .1 (again-types small)
+
+-- and so is its call, by a checked and narrow table: no refusal but 17
+pub call-again : (ops types layout code : List ℕ) → Bytes code → (at : ℕ) (i : Instr) → decodes code (opcodesOf ops) types (signedValue layout 13) at ≡ record { outcome = Outcome.Done; instr = i }
+    → checkTable ops types [] [] layout ≡ Ok → NarrowTable types → (out : List ℕ) → writeCall ops types layout i out ≡ putText (take (i .end - at) (drop at code)) out
+unfolding writeCall
+call-again ops types layout code bytes at i done table small out =
+    let rfs = signedValue layout 13 in
+    rw (table, written-again (opcodesOf ops) types rfs code bytes at i done .0, again-narrow (opcodesOf ops) types rfs code bytes at i done small)
