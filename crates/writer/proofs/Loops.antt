@@ -5,8 +5,8 @@ use mathlib.Core.Bool.{Bool, true, false, cond, not, _&&_}
 use mathlib.Core.List.{List, [], _∷_, _++_, append-nil}
 use mathlib.Core.Logic.{⊎-elim}
 use native.Mathlib.Omega.{arith}
-use borrow.Author.Tests.{lt-ltb, le-ltb, ltb-true, eq-eqb, ne-eqb, eqb-true}
-use lib.Dec.{eqb, ltb}
+use borrow.Author.Tests.{le-leb, lt-ltb, le-ltb, ltb-true, eq-eqb, ne-eqb, eqb-true}
+use lib.Dec.{eqb, leb, ltb}
 use lib.IntN.{ℤ, pos}
 use lib.ListN.{length, getD, take, drop, length-map, length-take, drop-of-length-le, List·getD-map}
 use lib.Seq.{drop-cons, getD-take}
@@ -23,7 +23,7 @@ use Rattle.operand.specs.declared.Operand.the-variants.{Nothing, Reg, RegList, 
 use Rattle.flow.specs.Opcodes.{Opcodes, prefixWith}
 use Rattle.decoder.specs.declared.OperandRecord.{OperandRecord}
 use Rattle.decoder.specs.declared.Instr.{Instr}
-use Rattle.decoder.specs.Decode.{codesFrom}
+use Rattle.decoder.specs.Decode.{codesFrom, operandTypes}
 use Rattle.decoder.proofs.Extents.{width-eight}
 use Rattle.writer.specs.Bytes.{storedOf, countOf, operandBytes, bytesBy, headBytes}
 use Rattle.writer.specs.Write.{sameNumbers, sameOperand, readsBack, backAs, operandsOk, scaleOk, opcodeFits, operandOf, given}
@@ -154,8 +154,14 @@ module _ (types : List ℕ) (scale : ℕ) (rfs : ℤ) where
     pub ok-passes : isCounted t before ≡ true → okFrom before now-codes l ≡ okFrom t next-codes l
     ok-passes h = ap (λ (ts : List ℕ). okFrom before ts l) (codes-next ops op n k under is) ∙ ok-skip t before next-codes l h
 
-    pub ok-takes : (o : Operand) (rest : List Operand) → isCounted t before ≡ false → l ≡ o ∷ rest → okFrom before now-codes l ≡ (readsBack types scale rfs t o && okFrom t next-codes rest)
+    ok-takes : (o : Operand) (rest : List Operand) → isCounted t before ≡ false → l ≡ o ∷ rest → okFrom before now-codes l ≡ (readsBack types scale rfs t o && okFrom t next-codes rest)
     ok-takes o rest h e = ap (okFrom before now-codes) e ∙ ap (λ (ts : List ℕ). okFrom before ts (o ∷ rest)) (codes-next ops op n k under is) ∙ ok-own t before next-codes o rest h
+
+    pub ok-fails : (o : Operand) (rest : List Operand) → isCounted t before ≡ false → l ≡ o ∷ rest → readsBack types scale rfs t o ≡ false → okFrom before now-codes l ≡ false
+    ok-fails o rest h e b = ok-takes o rest h e ∙ ap (λ (x : Bool). x && okFrom t next-codes rest) b
+
+    pub ok-goes : (o : Operand) (rest : List Operand) → isCounted t before ≡ false → l ≡ o ∷ rest → readsBack types scale rfs t o ≡ true → okFrom before now-codes l ≡ okFrom t next-codes rest
+    ok-goes o rest h e b = ok-takes o rest h e ∙ ap (λ (x : Bool). x && okFrom t next-codes rest) b
 
     pub ok-lacks : isCounted t before ≡ false → l ≡ [] → okFrom before now-codes l ≡ false
     ok-lacks h e = ap (okFrom before now-codes) e ∙ ap (λ (ts : List ℕ). okFrom before ts []) (codes-next ops op n k under is) ∙ ok-none t before next-codes h
@@ -182,6 +188,17 @@ module _ (types : List ℕ) (scale : ℕ) (rfs : ℤ) where
         (λ (e : j ≡ i .count). rw (given-end i few eight j (omega arith)) (sym (eq-eqb j (i .count) e)))
         (λ (d : j ≡ i .count → ⊥). rw (given-next i few eight j (omega arith)) (sym (ne-eqb j (i .count) d)))
         (same? j (i .count))
+
+-- ---- all operands of an instruction, from the first type on; n is how many types its opcode has
+module _ (types : List ℕ) (rfs : ℤ) (ops : Opcodes) (i : Instr) {n : ℕ} (all : n ≡ min (ops .operands (i .opcode)) 8) where
+  pub ok-told : {x : Bool} → i .count ≤ 8 → okFrom types (i .scale) rfs 0 (codesFrom ops (i .opcode) 0 n) (given i) ≡ x
+      → (leb (i .count) 8 && operandsOk types (i .scale) rfs false (operandTypes ops (i .opcode)) (given i)) ≡ x
+  unfolding isList
+  ok-told few e = rw (le-leb (i .count) 8 few, ← all) e
+
+  pub bytes-told : bytesFrom types (i .scale) rfs 0 (codesFrom ops (i .opcode) 0 n) (given i) ≡ bytesBy types (i .scale) rfs false (operandTypes ops (i .opcode)) (given i)
+  unfolding isList
+  bytes-told = rw (← all)
 
 -- ---- 22
 module _ (ops : Opcodes) (scale opcode : ℕ) where
