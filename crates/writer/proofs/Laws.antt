@@ -9,6 +9,7 @@ use lib.ListN.{length, drop, length-append}
 use lib.Seq.{take-append-seam}
 use lib.IntN.{ℤ}
 use Rattle.laws.proofs.Tests.{and-left, and-right}
+use Rattle.refusal.specs.declared.Refusal.{Refusal}
 use Rattle.refusal.specs.declared.Check.{Check}
 use Rattle.refusal.specs.declared.Check.the-variants.{Ok, Refused}
 use Rattle.refusal.specs.Check.{refusalAt, firstRefusal, refuseUnless, guardedOn}
@@ -90,3 +91,17 @@ module _ (ops types layout : List ℕ) (i : Instr) where
 
   pub answer-reads-back : (out : List ℕ) {o′ : List ℕ} {r : Written} → WrittenBy (writeCall ops types layout i out) r o′ → ReadsBack ops types layout i r o′
   answer-reads-back out w = rw (w .0, w .1) (call-reads-back out)
+
+-- ---- the call, from its parts
+module _ (ops types layout : List ℕ) (i : Instr) (out : List ℕ) where
+  abbrev all-checks : Check
+  all-checks = firstRefusal (checkTable ops types [] [] layout) (checkWrite (opcodesOf ops) types (signedValue layout 13) i)
+
+  pub call-refused : {r : Refusal} → all-checks ≡ Refused r → WrittenBy (writeCall ops types layout i out) (written.Refused r) out
+  unfolding writeCall
+  call-refused h = rw h (refl, refl)
+
+  pub call-written : {o′ : List ℕ} {r : Written} → all-checks ≡ Ok → WrittenBy (putText (writtenBytes (opcodesOf ops) types (signedValue layout 13) i) out) r o′
+      → WrittenBy (writeCall ops types layout i out) r o′
+  unfolding writeCall
+  call-written h w = rw h w
