@@ -120,3 +120,20 @@ told-again (suc (suc (suc (suc (suc (suc (suc zero))))))) a b f = again-one 7 a 
 told-again (suc (suc (suc (suc (suc (suc (suc (suc zero)))))))) a b f = again-one 8 a b a (ltb a (2 ^ 32)) (IntrinsicId a) refl refl
 told-again (suc (suc (suc (suc (suc (suc (suc (suc (suc zero))))))))) a b f = again-only 9 a b (ltb a (2 ^ 8)) (Raw a b) (λ h. refl)
 told-again (suc (suc (suc (suc (suc (suc (suc (suc (suc (suc k)))))))))) a b f = inl refl
+
+-- ---- by computing: -1; 32 bits whose sign is not extended; a flag of more than 8 bits; a second number too many
+register : toldOperand 1 (2 ^ 64 - 1) 0 ≡ Reg (negsuc 0)
+unfolding toldOperand isI32
+register = refl
+
+no-register : toldOperand 1 (2 ^ 32 - 1) 0 ≡ Nothing
+unfolding toldOperand isI32
+no-register = refl
+
+no-flag : toldOperand 5 300 0 ≡ Nothing
+unfolding toldOperand
+no-flag = refl
+
+no-index : toldOperand 4 7 1 ≡ Nothing
+unfolding toldOperand
+no-index = refl

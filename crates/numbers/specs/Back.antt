@@ -1,5 +1,5 @@
--- The way back: the instruction that 28 numbers tell. Law `told-back` (proofs/Back.antt): the numbers that are told of an instruction tell it.
--- Law `told-again`: three numbers that tell an operand are those that are told of it.
+-- The way back: the instruction that 28 numbers tell. Laws of proofs/Inverse.antt: the numbers that are told of an instruction tell it (`told-back`),
+-- and three numbers that tell an operand are those that are told of it (`told-again`).
 use Prim.Native.Nat.{ℕ, zero, suc, _+_, _-_, _*_, _%_, _^_}
 use mathlib.Core.Bool.{Bool, cond, _&&_, _||_}
 use mathlib.Core.List.{List, [], _∷_}
