@@ -5,9 +5,8 @@ use mathlib.Core.List.{List, [], _∷_, map}
 use mathlib.Core.Bool.{cond}
 use lib.Dec.{eqb}
 use lib.IntN.{ℤ, natAbs}
-use mir.Syntax.{w64}
-use mir.Val.{ofZ}
 use Rattle.refusal.specs.Numbers.{Numbers}
+use Rattle.numbers.specs.Told.{told64}
 use Rattle.function.specs.declared.PoolObject.{PoolObject}
 use Rattle.function.specs.declared.PoolObject.the-variants as pool-object
 use Rattle.steps.specs.Steps.{Source}
@@ -44,10 +43,6 @@ pub record WalkPromise (s : Source) (M : List ℕ) (number steps place : ℕ) : 
 -- whether an object is lent for lent code, 0 if not, and its number
 abbrev pub poolObject : ℕ → ℕ → PoolObject
 poolObject lent n = cond (eqb lent 0) pool-object.Nothing (pool-object.Object n)
-
--- a value in 64 bits: a negative one in two's complement
-abbrev pub told64 : ℤ → ℕ
-told64 v = ofZ w64 v
 
 -- k values: those of an answer, and 0 for one that is not there
 abbrev pub valuesTold : ℕ → List ℤ → List ℕ

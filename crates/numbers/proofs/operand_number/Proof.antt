@@ -1,8 +1,8 @@
 use mathlib.Core.Path.{_≡_}
 use native.Mathlib.Omega.{arith}
 use borrow.Author.Needs.{needs}
-use Rattle.capi.proofs.operand_number.Statement.{statement}
-use Rattle.capi.proofs.operand_number.Tie as tie
+use Rattle.numbers.proofs.operand_number.Statement.{statement}
+use Rattle.numbers.proofs.operand_number.Tie as tie
 
 kind-number-requires : tie.Need-kind-number-requires
 kind-number-requires c κs = search needs

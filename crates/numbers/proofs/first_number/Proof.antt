@@ -3,11 +3,11 @@ use mathlib.Core.Path.{ap, _∙_}
 use mir.Facts.{toZ-ofZ}
 use mir.Syntax.{w32, w64}
 use Rattle.words.specs.Signed.{modulo}
-use Rattle.capi.specs.Told.{told64}
-use Rattle.capi.proofs.Laws.{told-wide}
+use Rattle.numbers.specs.Told.{told64}
+use Rattle.numbers.proofs.Laws.{told-wide}
 use borrow.Author.Needs.{needs}
-use Rattle.capi.proofs.first_number.Statement.{statement}
-use Rattle.capi.proofs.first_number.Tie as tie
+use Rattle.numbers.proofs.first_number.Statement.{statement}
+use Rattle.numbers.proofs.first_number.Tie as tie
 
 enum-told : tie.Need-enum-told
 enum-told c = search needs

@@ -9,7 +9,7 @@ use Rattle.operand.specs.declared.Operand.the-variants.{Nothing}
 use Rattle.operand.specs.Numbers.{operandNumbers}
 use Rattle.decoder.specs.declared.Instr.{Instr}
 use Rattle.bytecode.specs.Numbers.{instrNumbers}
-use Rattle.capi.specs.Told.{told64}
+use Rattle.numbers.specs.Told.{told64}
 
 -- the operand in place j of the eight
 abbrev pub operandIn : Instr → ℕ → Operand

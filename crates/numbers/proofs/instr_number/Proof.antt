@@ -2,11 +2,11 @@ use Prim.Native.Nat.{_-_, _%_}
 use mathlib.Core.Path.{sym, ap, _∙_}
 use native.Mathlib.Omega.{arith}
 use Rattle.operand.specs.declared.Operand.{Operand}
-use Rattle.capi.specs.mirror.Instr.{operandNumber}
-use Rattle.capi.proofs.Instr.{instr-operand}
+use Rattle.numbers.specs.mirror.Instr.{operandNumber}
+use Rattle.numbers.proofs.Instr.{instr-operand}
 use borrow.Author.Needs.{needs}
-use Rattle.capi.proofs.instr_number.Statement.{statement}
-use Rattle.capi.proofs.instr_number.Tie as tie
+use Rattle.numbers.proofs.instr_number.Statement.{statement}
+use Rattle.numbers.proofs.instr_number.Tie as tie
 
 cast-result : tie.Need-cast-result
 cast-result c = search needs

@@ -3,10 +3,10 @@ use mathlib.Core.Path.{ap, _∙_}
 use mir.Facts.{toZ-ofZ}
 use mir.Syntax.{w64}
 use Rattle.words.specs.Signed.{modulo}
-use Rattle.capi.proofs.Laws.{told-narrow}
+use Rattle.numbers.proofs.Laws.{told-narrow}
 use borrow.Author.Needs.{sfits-of, needs}
-use Rattle.capi.proofs.bits_of.Statement.{statement}
-use Rattle.capi.proofs.bits_of.Tie as tie
+use Rattle.numbers.proofs.bits_of.Statement.{statement}
+use Rattle.numbers.proofs.bits_of.Tie as tie
 
 wide-requires : tie.Need-wide-requires
 wide-requires c κs = search needs

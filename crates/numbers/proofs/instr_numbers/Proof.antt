@@ -3,10 +3,10 @@ use mathlib.Core.Path.{_≡_, refl}
 use native.Mathlib.Omega.{arith}
 use borrow.Author.Needs.{needs}
 use lib.ListN.{length, length-set}
-use Rattle.capi.specs.mirror.Instr.{NumbersAre}
-use Rattle.capi.proofs.Instr.{numbers-more}
-use Rattle.capi.proofs.instr_numbers.Statement.{statement}
-use Rattle.capi.proofs.instr_numbers.Tie as tie
+use Rattle.numbers.specs.mirror.Instr.{NumbersAre}
+use Rattle.numbers.proofs.Instr.{numbers-more}
+use Rattle.numbers.proofs.instr_numbers.Statement.{statement}
+use Rattle.numbers.proofs.instr_numbers.Tie as tie
 
 abbrev Inv-loop : tie.InvT-loop
 Inv-loop instr numbers₀ k₀ numbers k = (k ≤ 28) × (length numbers ≡ 28) × NumbersAre instr numbers k

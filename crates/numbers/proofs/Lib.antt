@@ -1,0 +1,4 @@
+pub mod Laws
+pub mod Instr
+pub mod Back
+pub mod Inverse

@@ -1,0 +1,4 @@
+pub mod Told
+pub mod Back
+pub mod Fits
+pub mod mirror
