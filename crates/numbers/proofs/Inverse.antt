@@ -23,7 +23,7 @@ use Rattle.decoder.specs.Decode.{recordOf}
 use Rattle.bytecode.specs.Numbers.{instrNumbers}
 use Rattle.numbers.specs.Told.{told64}
 use Rattle.numbers.specs.Back.{isI32, only, toldOperand, toldAt, toldFrom, toldScale, toldInstr}
-use Rattle.numbers.specs.Fits.{OperandFits, InstrFits}
+use Rattle.numbers.proofs.Fits.{OperandFits, InstrFits}
 use Rattle.numbers.specs.mirror.Instr.{operandIn, operandNumber}
 use Rattle.numbers.proofs.Instr.{instr-operand}
 use Rattle.numbers.proofs.Back.{only-yes, slots-told}

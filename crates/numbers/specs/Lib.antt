@@ -1,4 +1,3 @@
 pub mod Told
 pub mod Back
-pub mod Fits
 pub mod mirror

@@ -61,43 +61,9 @@ fn operand_number(op: Operand, j: u8) -> u64
     ensures { λ r. ⌜ r ≡ operandNumber op j ⌝ }
 {
     match j {
-        0 => kind_number(op),
-        1 => first_number(op),
-        _ => second_number(op),
-    }
-}
-
-fn kind_number(op: Operand) -> u64
-    ensures { λ r. ⌜ r ≡ operandNumber op 0 ⌝ }
-{
-    match op {
-        Operand::Nothing => 0,
-        Operand::Reg(_) => 1,
-        Operand::RegList { first, count } => 2,
-        Operand::Imm(_) => 3,
-        Operand::Idx(_) => 4,
-        Operand::Flag8(_) => 5,
-        Operand::Flag16(_) => 6,
-        Operand::RuntimeId(_) => 7,
-        Operand::IntrinsicId(_) => 8,
-        Operand::Raw { ty, value } => 9,
-    }
-}
-
-fn first_number(op: Operand) -> u64
-    ensures { λ r. ⌜ r ≡ operandNumber op 1 ⌝ }
-{
-    match op {
-        Operand::Nothing => 0,
-        Operand::Reg(i) => bits_of(i),
-        Operand::RegList { first, count } => bits_of(first),
-        Operand::Imm(v) => words::bits64(v),
-        Operand::Idx(v) => v as u64,
-        Operand::Flag8(v) => v as u64,
-        Operand::Flag16(v) => v as u64,
-        Operand::RuntimeId(v) => v as u64,
-        Operand::IntrinsicId(v) => v as u64,
-        Operand::Raw { ty, value } => ty as u64,
+        0 => operand::kind_number(op) as u64,
+        1 => words::bits64(operand::first_number(op)),
+        _ => operand::second_number(op),
     }
 }
 
@@ -106,23 +72,6 @@ pub fn bits_of(i: i32) -> u64
     ensures { λ r. ⌜ r ≡ told64 i ⌝ }
 {
     words::bits64(words::wide(i))
-}
-
-fn second_number(op: Operand) -> u64
-    ensures { λ r. ⌜ r ≡ operandNumber op 2 ⌝ }
-{
-    match op {
-        Operand::Nothing => 0,
-        Operand::Reg(_) => 0,
-        Operand::RegList { first, count } => count as u64,
-        Operand::Imm(_) => 0,
-        Operand::Idx(_) => 0,
-        Operand::Flag8(_) => 0,
-        Operand::Flag16(_) => 0,
-        Operand::RuntimeId(_) => 0,
-        Operand::IntrinsicId(_) => 0,
-        Operand::Raw { ty, value } => value,
-    }
 }
 
 // The way back.

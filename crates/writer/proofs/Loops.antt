@@ -85,7 +85,7 @@ module _ (i : Instr) (few : i .count ≤ 8) (eight : length (i .operands) ≡ 8)
   given-next j h =
       let none : OperandRecord = record { operand = Nothing } in
       let at : getD (given i) j Nothing ≡ getD (i .operands) j none .operand =
-          List·getD-map operandOf (take (i .count) (i .operands)) j none ∙ ap operandOf (getD-take (i .count) (i .operands) j none h) in
+      List·getD-map operandOf (take (i .count) (i .operands)) j none ∙ ap operandOf (getD-take (i .count) (i .operands) j none h) in
       let next : suc j ≡ j + 1 = omega arith in
       drop-cons (given i) j Nothing (omega (arith, many)) ∙ ap (λ (o : Operand). o ∷ drop (suc j) (given i)) at
       ∙ ap (λ (k : ℕ). getD (i .operands) j none .operand ∷ drop k (given i)) next

@@ -77,6 +77,10 @@ checkWrite ops types rfs i =
     (firstRefusal (refuseUnless (opcodeFits ops (i .scale) (i .opcode)) 22)
     (refuseUnless (leb (i .count) 8 && operandsOk types (i .scale) rfs false (operandTypes ops (i .opcode)) (given i)) 23))
 
+-- 1 to 5 and 21, which do not ask for the opcode
+abbrev pub checkScale : List ℕ → List ℕ → List ℕ → ℕ → Check
+checkScale ops types layout scale = firstRefusal (checkTable ops types [] [] layout) (refuseUnless (scaleOk (opcodesOf ops) scale) 21)
+
 -- what the call writes. It is lent no name files; of the instruction neither offset nor end is read.
 abbrev pub writtenBytes : Opcodes → List ℕ → ℤ → Instr → List ℕ
 writtenBytes ops types rfs i = instrBytes ops types rfs (i .scale) (i .opcode) (given i)

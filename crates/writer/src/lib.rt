@@ -20,7 +20,7 @@ ghost use Rattle.tables.specs.Records.{width};
 ghost use Rattle.operand.specs.Operand.{isList};
 ghost use Rattle.decoder.specs.Decode.{operandTypes};
 ghost use Rattle.writer.specs.Bytes.{storedOf, countOf, operandBytes, bytesBy, headBytes};
-ghost use Rattle.writer.specs.Write.{sameOperand, readsBack, operandsOk, scaleOk, opcodeFits, given, checkWrite, writtenBytes, writeCall, ReadsBack};
+ghost use Rattle.writer.specs.Write.{sameOperand, readsBack, operandsOk, scaleOk, opcodeFits, given, checkWrite, checkScale, writtenBytes, writeCall, ReadsBack};
 
 // The bytes of an instruction, from the start of the buffer on; neither its offset nor its end is read. Rows 1 to 5, then 21 to 23 and 17; after a
 // refusal the buffer is as it was.
@@ -36,6 +36,15 @@ pub fn write(out: &mut [u8], opcodes: &[u8], types: &[u8], layout: &[u8], instr:
         Check::Refused(refusal) => Written::Refused(refusal),
         Check::Ok => write_unchecked(out, opcodes, types, start, instr),
     }
+}
+
+// Rows 1 to 5 and 21: what is wrong before an opcode is looked at.
+pub fn check_scale(opcodes: &[u8], types: &[u8], layout: &[u8], scale: u8) -> Check
+    ensures { λ r. ⌜ r ≡ checkScale (now (opcodes .entry)) (now (types .entry)) (now (layout .entry)) scale ⌝ }
+{
+    let table = tables::check_table(opcodes, types, b"", b"", layout);
+    let good = scale_ok(opcodes, scale);
+    refusal::first_refusal(table, refusal::refuse_unless(good, refusal::WRONG_SCALE))
 }
 
 // Rows 21 to 23.

@@ -1,4 +1,3 @@
-
 use native.Mathlib.Omega.{arith}
 use mathlib.Core.Path.{sym, ap}
 use denote.Ref.{now}

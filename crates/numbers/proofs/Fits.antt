@@ -1,4 +1,4 @@
--- What an instruction's fields may hold, for law `told-back` (proofs/Inverse.antt): each is in the range of its type.
+-- What an instruction's fields may hold, for law `told-back` (Inverse.antt): each is in the range of its type.
 use Prim.Native.Nat.{ℕ, _^_, _<_}
 use mathlib.Core.Path.{_≡_}
 use lib.ListN.{length}
