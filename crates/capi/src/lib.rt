@@ -6,6 +6,8 @@ use decoder::Outcome;
 use function::PoolObject;
 use jumps::EntryAnswer;
 use jumps::TargetAnswer;
+use refusal::Check;
+use refusal::Refusal;
 use text::Written;
 use walk::Walked;
 ghost use mathlib.Core.Path.{_≡_};
@@ -17,7 +19,7 @@ ghost use Rattle.bytecode.specs.Numbers.{decodedNumbers};
 ghost use Rattle.jumps.specs.Jumps.{targetCall, entryCall};
 ghost use Rattle.jumps.specs.Numbers.{targetNumbers, entryNumbers};
 ghost use Rattle.walk.specs.Walk.{objectSource, walkCall, lentSource, walkLent};
-ghost use Rattle.capi.specs.Told.{listTold, walkNumbers, walkTold, WalkPromise, poolObject, numbersTold, decodeTold};
+ghost use Rattle.capi.specs.Told.{writtenTold, bufferTold, noOpcode, writeNumbers, WriteReads, walkNumbers, walkTold, WalkPromise, poolObject, numbersTold, decodeTold};
 
 // The listing of an object into `out`: its length in `place`, or the refusal's place, with `out` as it was.
 #[no_mangle]
@@ -36,7 +38,7 @@ pub extern "C" fn jscd_list(
 ) -> u8
     ensures { λ r. let f : Files = filesOf (now (opcodes .entry)) (now (types .entry)) (now (runtime .entry)) (now (intrinsic .entry))
         (now (layout .entry)) (now (objects .entry)) (now (slots .entry)) (now (payload .entry)) in
-        ⌜ (r, now (place .exit), now (out .exit)) ≡ listTold (listCall f object (now (out .entry))) ⌝ }
+        ⌜ (r, now (place .exit), now (out .exit)) ≡ bufferTold (listCall f object (now (out .entry))) ⌝ }
 {
     let listed = disasm::list(
         out,
@@ -50,7 +52,52 @@ pub extern "C" fn jscd_list(
         payload,
         object,
     );
-    match listed {
+    tell_written(listed, place)
+}
+
+// The bytes of the instruction that 28 numbers tell, as jscd_decode tells them, into `out`: their number in `place`, or the refusal's place, with `out`
+// as it was. Where the instruction ends is not read.
+#[no_mangle]
+pub extern "C" fn jscd_write(
+    out: &mut [u8],
+    opcodes: &[u8],
+    types: &[u8],
+    layout: &[u8],
+    numbers: &[u64; 28],
+    place: &mut usize,
+) -> u8
+    ensures { λ r. ⌜ ((r, now (place .exit), now (out .exit)) ≡ bufferTold (writeNumbers (now (opcodes .entry)) (now (types .entry)) (now (layout .entry))
+        (now (numbers .entry)) (now (out .entry))))
+        × WriteReads (now (opcodes .entry)) (now (types .entry)) (now (layout .entry)) (now (numbers .entry)) r (now (place .exit)) (now (out .exit)) ⌝ }
+{
+    let known = numbers::opcode_known(numbers);
+    let instr = numbers::instr_of(numbers);
+    if !known {
+        let check = writer::check_scale(opcodes, types, layout, instr.scale);
+        return tell_written(no_opcode(check), place);
+    }
+    let written = writer::write(out, opcodes, types, layout, instr);
+    tell_written(written, place)
+}
+
+// The refusal of an opcode that no table has, behind what is checked before it.
+fn no_opcode(check: Check) -> Written
+    ensures { λ r. ⌜ r ≡ noOpcode check ⌝ }
+{
+    match check {
+        Check::Refused(refusal) => Written::Refused(refusal),
+        Check::Ok => Written::Refused(Refusal {
+            number: refusal::WRONG_OPCODE,
+            place: 0,
+        }),
+    }
+}
+
+// The numbers of an answer of a call that writes into a buffer.
+fn tell_written(written: Written, place: &mut usize) -> u8
+    ensures { λ r. ⌜ (r, now (place .exit)) ≡ writtenTold written ⌝ }
+{
+    match written {
         Written::Done(n) => {
             *place = n;
             0
