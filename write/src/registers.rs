@@ -95,3 +95,36 @@ fn is_name(text: &str) -> bool {
         None => matches!(text, "<this>" | "<context>" | "<closure>"),
     }
 }
+
+#[cfg(test)]
+mod tests {
+    use super::*;
+
+    const SOME: [i32; 9] = [i32::MIN, i32::MIN + 1, -9, -6, -1, 0, 7, i32::MAX - 1, i32::MAX];
+
+    /// A name is that of the register that it is read as, at the ends of all numbers too.
+    #[test]
+    fn names_are_read() {
+        for (k, first_param) in SOME.into_iter().enumerate() {
+            for base in [None, Some(SOME[(k + 4) % 9])] {
+                let (context, closure) = (SOME[(k + 1) % 9], SOME[(k + 2) % 9]);
+                let parameters = Some(SOME[(k + 3) % 9]);
+                let registers = Registers { context, closure, first_param, base, parameters };
+                for index in SOME.into_iter().flat_map(|index| [index, index.wrapping_add(2)]) {
+                    let name = registers.name(index).unwrap();
+                    assert_eq!(registers.index(&name), Ok(index), "{registers:?} {name}");
+                }
+            }
+        }
+    }
+
+    #[test]
+    fn ranges() {
+        assert_eq!(range("r0-r2"), Some(("r0", "r2")));
+        assert_eq!(range("a-2-a-1"), Some(("a-2", "a-1")));
+        assert_eq!(range("<this>-a0"), Some(("<this>", "a0")));
+        for none in ["r0", "r0-", "-r0", "r0-r", "r0-r1-r2", "a--1-a0", "r0-<that>"] {
+            assert_eq!(range(none), None, "{none}");
+        }
+    }
+}

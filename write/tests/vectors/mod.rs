@@ -16,6 +16,13 @@ pub struct Listing {
 }
 
 impl Listing {
+    /// As its header has it.
+    pub fn parameters(&self) -> i32 {
+        let mut lines = self.text.lines();
+        let count = lines.find_map(|line| line.strip_prefix("Parameter count ")).unwrap();
+        count.parse().unwrap()
+    }
+
     /// Whether the payload has this code.
     pub fn holds(&self, code: &[u8]) -> bool {
         self.payload.windows(code.len()).any(|part| part == code)
