@@ -13,6 +13,7 @@ use Rattle.refusal.specs.declared.Check.the-variants.{Ok, Refused}
 use Rattle.refusal.specs.Numbers.{Numbers}
 use Rattle.refusal.specs.Check.{refusalAt, firstRefusal, refuseUnless, guarded, guardedOn}
 use Rattle.refusal.proofs.Laws.{never}
+use Rattle.text.specs.declared.Written.{Written}
 use Rattle.text.specs.declared.Written.the-variants as written
 use Rattle.text.specs.Written.{putText}
 use Rattle.serializer.specs.declared.Elem.{Elem}
@@ -95,14 +96,14 @@ module _ (at : ℕ) where
       checked (Refused r) row e = (row .row r refl .least, row .row r refl .most)
 
 -- ---- what is written: 1 to 5, 17, and 02's 21 to 23, so that a refusal is never told as 0
-abbrev Some : Check → Type 0
+abbrev pub Some : Check → Type 0
 Some c = (r : Refusal) → c ≡ Refused r → 1 ≤ r .number
 
-some-unless : (good : Bool) (n : ℕ) → 1 ≤ n → Some (refuseUnless good n)
+pub some-unless : (good : Bool) (n : ℕ) → 1 ≤ n → Some (refuseUnless good n)
 some-unless true n h r e = never r (sym e)
 some-unless false n h r e = let z : refusalAt n 0 ≡ r = cc in rw (← z) h
 
-some-first : (a b : Check) → Some a → Some b → Some (firstRefusal a b)
+pub some-first : (a b : Check) → Some a → Some b → Some (firstRefusal a b)
 some-first Ok b p q = q
 some-first (Refused r) b p q = p
 
@@ -122,11 +123,11 @@ write-row ops types layout i out r = go (checkTable ops types [] [] layout) (che
     t : List ℕ
     t = writtenBytes (opcodesOf ops) types (signedValue layout 13) i
 
-    put : (b : Bool) → cond b (written.Done (length t), t ++ drop (length t) out) (written.Refused (refusalAt 17 0), out) .0 ≡ written.Refused r → 1 ≤ r .number
+    put : (b : Bool) → let x : Written × List ℕ = cond b (written.Done (length t), t ++ drop (length t) out) (written.Refused (refusalAt 17 0), out) in x .0 ≡ written.Refused r → 1 ≤ r .number
     put true e = let z : _≡_ {A = ℕ} 0 1 = cc in absurd (omega arith)
     put false e = let z : refusalAt 17 0 ≡ r = cc in rw (← z) (omega arith)
 
-    go : (a b : Check) → Some a → Some b → guardedOn (firstRefusal a b) written.Refused out (putText t out) .0 ≡ written.Refused r → 1 ≤ r .number
+    go : (a b : Check) → Some a → Some b → let x : Written × List ℕ = guardedOn (firstRefusal a b) written.Refused out (putText t out) in x .0 ≡ written.Refused r → 1 ≤ r .number
     go (Refused q) b p s e = let z : q ≡ r = cc in rw (← z) (p q refl)
     go Ok (Refused q) p s e = let z : q ≡ r = cc in rw (← z) (s q refl)
     go Ok Ok p s e = put (leb (length t) (length out)) e
