@@ -95,8 +95,8 @@ pub fn write(bytes: &[u8], files: Files, call: &[u8]) -> Outcome {
     judged(write_in(bytes, files, call, &mut out))
 }
 
-fn write_in(bytes: &[u8], files: Files, call: &[u8], out: &mut [u8; 200]) -> bool {
-    let len = text::min(words::u64_at(call, 224) as usize, 200);
+fn write_in(bytes: &[u8], files: Files, call: &[u8], out: &mut [u8]) -> bool {
+    let len = text::min(words::u64_at(call, 224) as usize, out.len());
     is_written(bytes, files, call, &mut out[..len])
 }
 
