@@ -1,4 +1,4 @@
-// The calls for C and Rust: numbers and lent bytes in, one number out. 0 is an answer, 1 to 20 a refusal's number, 255 the end of the
+// The calls for C and Rust: numbers and lent bytes in, one number out. 0 is an answer, 1 to 23 a refusal's number, 255 the end of the
 // code, 254 a walk that leaves. The place, or the answer's length, is written behind a pointer. All that is lent to a call is a parameter of its
 // own, and so is each number of its answer: the calls on lent code have twelve or thirteen parameters.
 
