@@ -1,9 +1,10 @@
 /* Lists the function whose eight record files are in a folder, checks its walks, and by their tables decodes the first instruction of a small
-   code, and finds the target of a jump and the walks of another, for which no object is lent.
+   code, writes it again and with another number, and finds the target of a jump and the walks of another, for which no object is lent.
      cc -Icapi/include capi/example.c target/staticlib/libcapi.a -o target/example && target/example crates/jscd_list/data */
 #include "jscd.h"
 #include <stdio.h>
 #include <stdlib.h>
+#include <string.h>
 
 #define MOST 65536
 
@@ -67,6 +68,15 @@ int main(int argc, char **argv) {
     if (answer == JSCD_DONE && numbers[JSCD_OPERANDS] > 0)
         printf("opcode %llu, first operand of kind %llu: %lld\n", (unsigned long long)numbers[JSCD_OPCODE],
                (unsigned long long)numbers[JSCD_OPERAND(0)], (long long)numbers[JSCD_OPERAND(0) + 1]);
+
+    answer = jscd_write(out, sizeof out, f[0].bytes, f[0].length, f[1].bytes, f[1].length, f[4].bytes, f[4].length, numbers, &place);
+    if (answer == JSCD_DONE)
+        printf("written again: %zu bytes, %s\n", place,
+               place == sizeof code && !memcmp(out, code, sizeof code) ? "the same" : "others");
+    numbers[JSCD_OPERAND(0) + 1] = 384;
+    answer = jscd_write(out, sizeof out, f[0].bytes, f[0].length, f[1].bytes, f[1].length, f[4].bytes, f[4].length, numbers, &place);
+    if (answer != JSCD_DONE)
+        printf("384 in one byte: refused %d at %zu\n", answer, place);
 
     static const uint8_t jump[] = {0x06, 0x02, 0x0b};
     static const uint8_t none[1];

@@ -7,7 +7,7 @@
 
    Stack: a call of jscd_walk or jscd_walk_code takes up to 725,000 bytes whatever its code's length (ten bytes for each of 65,536 bytes of
    code, and two summaries of a pool's slots, are part of each call), so that a thread of 1 MB has it and one of 512 KB has not; jscd_list up to
-   53,000, jscd_target and jscd_entry up to 17,600, jscd_decode up to 1,700. Measured on the archive (x86-64), not proved. */
+   53,000, jscd_target and jscd_entry up to 17,600, jscd_decode and jscd_write up to 1,700. Measured on the archive (x86-64), not proved. */
 #ifndef JSCD_H
 #define JSCD_H
 
@@ -18,7 +18,7 @@
 extern "C" {
 #endif
 
-/* Answers: JSCD_DONE, JSCD_END, JSCD_LEAVES, or the number of a refusal, 1 to 20 (README.md, "Refusals"). */
+/* Answers: JSCD_DONE, JSCD_END, JSCD_LEAVES, or the number of a refusal, 1 to 23 (README.md, "Refusals"). */
 #define JSCD_DONE 0
 #define JSCD_LEAVES 254
 #define JSCD_END 255
@@ -126,6 +126,20 @@ uint8_t jscd_decode(const uint8_t *opcodes, size_t opcodes_len,
                     const uint8_t *layout, size_t layout_len,
                     const uint8_t *code, size_t code_len,
                     size_t start, size_t *place, uint64_t numbers[JSCD_NUMBERS]);
+
+/* The bytes of one instruction from the start of `out` on. `numbers` has it as jscd_decode tells it; numbers[JSCD_ENDS] and operands behind the
+   count are not read. A register list writes its own count.
+   JSCD_DONE: *place is how many bytes were written, and the rest of `out` is as it was. A refusal: *place is its place, and `out` is as it was.
+   Beside those of the table, 1 to 5, a refusal is, in this order and at place 0:
+   21  the scale is not 1, 2 or 4, or the table has no prefix opcode for it
+   22  no such opcode; or, at scale 1, a prefix opcode
+   23  another number or kind of operands than the opcode has, or one that would not read back as it is at its width
+   17  `out` is too short */
+uint8_t jscd_write(uint8_t *out, size_t out_len,
+                   const uint8_t *opcodes, size_t opcodes_len,
+                   const uint8_t *types, size_t types_len,
+                   const uint8_t *layout, size_t layout_len,
+                   const uint64_t numbers[JSCD_NUMBERS], size_t *place);
 
 #ifdef __cplusplus
 }

@@ -345,6 +345,37 @@ pub fn decode(
     }
 }
 
+/// The bytes of an instruction into `out`: how many. Its `offset` and `end` are not read. What is behind these bytes, and after a refusal all of
+/// `out`, is as it was.
+pub fn write(
+    opcodes: &[u8],
+    types: &[u8],
+    layout: &[u8],
+    instr: &Instr,
+    out: &mut [u8],
+) -> Result<usize, Refusal> {
+    let mut place = 0;
+    // Safety: as in `list`; `numbers` has the length that the function reads.
+    let number = unsafe {
+        jscd_write(
+            out.as_mut_ptr(),
+            out.len(),
+            opcodes.as_ptr(),
+            opcodes.len(),
+            types.as_ptr(),
+            types.len(),
+            layout.as_ptr(),
+            layout.len(),
+            &numbers(instr),
+            &mut place,
+        )
+    };
+    match number {
+        DONE => Ok(place),
+        _ => Err(Refusal { number, place }),
+    }
+}
+
 const DONE: u8 = 0;
 const END: u8 = 255;
 const LEAVES: u8 = 254;
@@ -482,6 +513,19 @@ extern "C" {
         place: *mut usize,
         numbers: *mut [u64; NUMBERS],
     ) -> u8;
+
+    fn jscd_write(
+        out: *mut u8,
+        out_len: usize,
+        opcodes: *const u8,
+        opcodes_len: usize,
+        types: *const u8,
+        types_len: usize,
+        layout: *const u8,
+        layout_len: usize,
+        numbers: *const [u64; NUMBERS],
+        place: *mut usize,
+    ) -> u8;
 }
 
 fn instr(offset: usize, numbers: &[u64; NUMBERS]) -> Instr {
@@ -507,5 +551,32 @@ fn operand(numbers: &[u64]) -> Operand {
         7 => Operand::RuntimeId(first as u32),
         8 => Operand::IntrinsicId(first as u32),
         _ => Operand::Raw { ty: first as u8, value: second },
+    }
+}
+
+/// An instruction's numbers. More than eight operands have no place there; their count alone is refused.
+fn numbers(instr: &Instr) -> [u64; NUMBERS] {
+    let mut out = [0; NUMBERS];
+    let head = [instr.opcode as u64, instr.scale as u64, instr.end as u64];
+    out[..3].copy_from_slice(&head);
+    out[3] = instr.operands.len() as u64;
+    for (place, operand) in out[4..].chunks_exact_mut(3).zip(&instr.operands) {
+        place.copy_from_slice(&operand_numbers(operand));
+    }
+    out
+}
+
+/// Kind, first and second number; signed ones in two's complement.
+fn operand_numbers(operand: &Operand) -> [u64; 3] {
+    match *operand {
+        Operand::Reg(index) => [1, index as u64, 0],
+        Operand::RegList { first, count } => [2, first as u64, count.into()],
+        Operand::Imm(value) => [3, value as u64, 0],
+        Operand::Idx(value) => [4, value.into(), 0],
+        Operand::Flag8(value) => [5, value.into(), 0],
+        Operand::Flag16(value) => [6, value.into(), 0],
+        Operand::RuntimeId(value) => [7, value.into(), 0],
+        Operand::IntrinsicId(value) => [8, value.into(), 0],
+        Operand::Raw { ty, value } => [9, ty.into(), value],
     }
 }

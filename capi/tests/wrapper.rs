@@ -1,7 +1,7 @@
 //! The wrapper on document 01's sample, whose files are in the listing program's data folder.
 
-use jscd_capi::{decode, entry, list, target, walk, walk_code};
-use jscd_capi::{Entry, Files, Lent, Operand, Refusal, Target, Walked};
+use jscd_capi::{decode, entry, list, target, walk, walk_code, write};
+use jscd_capi::{Entry, Files, Instr, Lent, Operand, Refusal, Target, Walked};
 use std::path::Path;
 
 fn file(name: &str) -> Vec<u8> {
@@ -117,6 +117,90 @@ fn instructions() {
     assert_eq!(at(&[0x02, 0x01], 1), Err(Refusal { number: 12, place: 1 }));
     assert_eq!(at(&[0x02], 1), Ok(None));
     assert_eq!(at(&[0x02], 2), Err(Refusal { number: 20, place: 2 }));
+}
+
+/// An instruction to be written; where it stands is not read.
+fn instr(opcode: u8, scale: u8, operands: &[Operand]) -> Instr {
+    Instr { offset: 9, opcode, scale, end: 7, operands: operands.to_vec() }
+}
+
+/// Document 01's rows `03 ff`, `00 03 80 01`, `01 03 00 00 00 80`, `0a 05 00 fa 02`, and a prefix behind a prefix. What is behind the bytes is
+/// as it was.
+#[test]
+fn instructions_are_written() {
+    let sample = Sample::new();
+    let f = sample.lent();
+    let call = [Operand::RuntimeId(5), Operand::RegList { first: 0, count: 2 }];
+    for (instr, bytes) in [
+        (instr(3, 1, &[Operand::Imm(-1)]), &[0x03, 0xff][..]),
+        (instr(3, 2, &[Operand::Imm(384)]), &[0x00, 0x03, 0x80, 0x01]),
+        (instr(3, 4, &[Operand::Imm(-2147483648)]), &[0x01, 0x03, 0x00, 0x00, 0x00, 0x80]),
+        (instr(10, 1, &call), &[0x0a, 0x05, 0x00, 0xfa, 0x02]),
+        (instr(0, 2, &[]), &[0x00, 0x00]),
+        (instr(11, 1, &[]), &[0x0b]),
+    ] {
+        let mut out = [7; 8];
+        assert_eq!(write(f.opcodes, f.types, f.layout, &instr, &mut out), Ok(bytes.len()));
+        assert_eq!(out[..bytes.len()], *bytes);
+        assert!(out[bytes.len()..].iter().all(|b| *b == 7));
+        let short = &mut out[..bytes.len() - 1];
+        let refused = Err(Refusal { number: 17, place: 0 });
+        assert_eq!(write(f.opcodes, f.types, f.layout, &instr, short), refused);
+    }
+}
+
+/// Each refusal, also with faults of later rows; the buffer is as it was.
+#[test]
+fn what_cannot_be_written() {
+    let sample = Sample::new();
+    let f = sample.lent();
+    let imm = [Operand::Imm(5)];
+    let list = |count| [Operand::RuntimeId(5), Operand::RegList { first: 0, count }];
+    for (number, instr) in [
+        (21, instr(99, 3, &imm)),
+        (21, instr(3, 0, &imm)),
+        (22, instr(12, 1, &imm)),
+        (22, instr(0, 1, &imm)),
+        (22, instr(1, 1, &[])),
+        (23, instr(3, 1, &[])),
+        (23, instr(3, 1, &[imm[0]; 2])),
+        (23, instr(3, 1, &[imm[0]; 9])),
+        (23, instr(3, 1, &[Operand::Imm(128)])),
+        (23, instr(3, 4, &[Operand::Imm(1 << 31)])),
+        (23, instr(3, 1, &[Operand::Idx(5)])),
+        (23, instr(3, 1, &[Operand::Raw { ty: 9, value: 5 }])),
+        (23, instr(10, 1, &list(256))),
+        (23, instr(4, 1, &[Operand::Reg(123)])),
+        (17, instr(10, 1, &list(255))),
+    ] {
+        let mut out = [7; 4];
+        let said = write(f.opcodes, f.types, f.layout, &instr, &mut out);
+        assert_eq!(said, Err(Refusal { number, place: 0 }), "{instr:?}");
+        assert_eq!(out, [7; 4]);
+    }
+    let fault = write(&f.opcodes[1..], f.types, f.layout, &instr(3, 3, &imm), &mut []);
+    assert_eq!(fault, Err(Refusal { number: 1, place: 0 }));
+    let layout = [&[5], &f.layout[1..]].concat();
+    let fault = write(f.opcodes, f.types, &layout, &instr(3, 3, &imm), &mut []);
+    assert_eq!(fault, Err(Refusal { number: 5, place: 0 }));
+}
+
+/// Every code of three bytes whose first is an opcode: what is decoded at its start is written as these bytes.
+#[test]
+fn what_is_decoded_is_written_again() {
+    let sample = Sample::new();
+    let f = sample.lent();
+    let mut again = 0;
+    for code in (0u32..13 << 16).step_by(3).map(u32::to_be_bytes) {
+        let Ok(Some(instr)) = decode(f.opcodes, f.types, f.layout, &code[1..], 0) else {
+            continue;
+        };
+        let mut out = [7; 4];
+        assert_eq!(write(f.opcodes, f.types, f.layout, &instr, &mut out), Ok(instr.end));
+        assert_eq!(out[..instr.end], code[1..][..instr.end]);
+        again += 1;
+    }
+    assert!(again > 100_000, "{again}");
 }
 
 /// Document 01's sample; its P11, `00 05 03 00 02`; its P12, `06 02 0b`, with two instructions behind it that no walk comes by. What is

@@ -6,6 +6,7 @@ use crate::port::{self, bit, Port, STORE, TABLE};
 use crate::records::*;
 use crate::switches::{self, Table};
 use crate::walks::{self, Outcome, Walked};
+use crate::writes;
 use jscd::bytecode::{Instr, Operand};
 use jscd::disasm::open_max_register;
 use jscd::serializer::{decode_smi_bytes, Elem, Ref, SlotValue};
@@ -42,6 +43,8 @@ pub enum Answer {
     /// One answer to each of several questions.
     Each(Vec<Answer>),
     Walked(Walked),
+    /// The bytes that were written.
+    Written(Vec<u8>),
 }
 
 impl fmt::Display for Answer {
@@ -58,6 +61,10 @@ impl fmt::Display for Answer {
                 Outcome::Closed => write!(f, "closed"),
                 Outcome::Leaves { steps, from } => write!(f, "leaves steps {steps} from {from}"),
             },
+            Answer::Written(bytes) => {
+                let shown: Vec<String> = bytes.iter().map(|b| format!("{b:02x}")).collect();
+                write!(f, "{}", shown.join(" "))
+            }
             Answer::Found { words, text } => {
                 let shown = words.iter().map(|w| match w {
                     Word::U(v) => v.to_string(),
@@ -155,6 +162,15 @@ pub const LONG_LISTING: usize = 22;
 pub const HEADER: usize = 23;
 pub const JUMP_ENTRY: usize = 24;
 pub const SLOT_RECORDS: usize = 25;
+pub const WRITE: usize = 26;
+
+/// An instruction's numbers, and the length of the buffer.
+const TO_WRITE: [&str; writes::NUMBERS + 1] = {
+    let mut names = ["operand"; writes::NUMBERS + 1];
+    (names[0], names[1], names[2], names[3]) = ("opcode", "scale", "end", "count");
+    names[writes::NUMBERS] = "room";
+    names
+};
 
 macro_rules! function {
     ($name:literal, $args:expr, $lent:expr) => {
@@ -166,7 +182,7 @@ macro_rules! function {
 }
 
 /// By number. New functions go behind.
-pub const FUNCTIONS: [Function; 26] = [
+pub const FUNCTIONS: [Function; 27] = [
     function!("listing", [], TABLE | STORE, listing),
     function!("raw_at", ["object", "offset", "length"], READS, raw_at),
     function!("array_len", ["object"], READS, array_len),
@@ -193,6 +209,7 @@ pub const FUNCTIONS: [Function; 26] = [
     function!("header", ["object"], READS, header),
     function!("jump_entry", ["object", "start", "entry"], ON_CODE, jump_entry),
     function!("slot_records", [], STORE, slot_records),
+    function!("write", TO_WRITE, ON_CODE, write_one),
 ];
 
 /// Functions whose first argument is the object that lends its pool, or none.
@@ -206,7 +223,7 @@ pub fn lent(call: &Call) -> u8 {
 
 /// Whether a call is lent code.
 pub fn lends_code(call: &Call) -> bool {
-    matches!(FUNCTIONS[call.function].lent, ON_CODE)
+    (FUNCTIONS[call.function].lent == ON_CODE && call.function != WRITE)
         || matches!(call.function, RENDER_OPERAND | INSTRUCTION_TEXT)
 }
 
@@ -486,6 +503,12 @@ pub fn instruction(files: &Files, ins: &Instr) -> Answer {
         out.extend(operand_words(operand, code));
     }
     words(out)
+}
+
+/// The instruction whose numbers are the arguments.
+fn write_one(lent: &Lent) -> Result<Answer, Refusal> {
+    let (room, numbers) = lent.call.args.split_last().expect("29 arguments");
+    writes::write(lent.files, numbers, *room).map(Answer::Written)
 }
 
 /// The walk over the code of object 0.

@@ -10,8 +10,9 @@
 //! real: the same functions as record files. walks: the walk check from document 01, with vectors
 //! in walk_*. programs: what the programs are run on. header_recording: headers.
 //! printed: what V8 prints. caches: functions of real code caches beside it.
-//! entry_recording: entries of switches. slot_recording: slot records. wrong: recorded calls with
-//! one thing changed in each answer.
+//! entry_recording: entries of switches. slot_recording: slot records. writes: writing an
+//! instruction, from document 02, with vectors in write_recording, out of write_cases. wrong: recorded calls with one
+//! thing changed in each answer.
 
 pub mod ask;
 pub mod caches;
@@ -49,4 +50,7 @@ pub mod walk_recording;
 pub mod walk_short;
 pub mod walk_v8;
 pub mod walks;
+pub mod write_cases;
+pub mod write_recording;
+pub mod writes;
 pub mod wrong;

@@ -144,8 +144,9 @@ mod tests {
     #[test]
     fn copies_are_current() {
         let oracle = std::path::Path::new(env!("CARGO_MANIFEST_DIR"));
-        let replay = ["rows.vec", "store.vec", "slots.vec", "code.vec", "v8.vec"]
-            .map(|name| ("replay", name));
+        let replay = ["rows.vec", "store.vec", "slots.vec", "code.vec", "v8.vec"];
+        let replay = replay.iter().chain(&crate::write_recording::PARTS);
+        let replay = replay.map(|name| ("replay", *name));
         let relist = [
             "rows.vec",
             "named.vec",
@@ -168,7 +169,7 @@ mod tests {
             "walk-caches",
         ];
         let rewalk = rewalk.map(|name| ("rewalk", name.to_owned() + ".vec"));
-        let copies = replay.into_iter().chain(relist.map(|name| ("relist", name)));
+        let copies = replay.chain(relist.map(|name| ("relist", name)));
         let copies = copies.map(|(held, name)| (held, name.to_owned()));
         for (held, name) in copies.chain(rewalk) {
             let recorded = std::fs::read(oracle.join("recorded").join(&name)).unwrap();

@@ -116,6 +116,10 @@ pub fn said(answer: &Answer) -> Vec<u8> {
             out.push(1);
             out.extend(runs(answers));
         }
+        Answer::Written(bytes) => {
+            out.push(1);
+            out.extend(bytes);
+        }
     }
     out
 }

@@ -34,8 +34,9 @@ pub const PROGRAMS: [Program; 3] = [
             INSTRUCTION_TEXT,
             LAST_BYTES,
             SLOT_RECORDS,
+            WRITE,
         ],
-        files: &["rows.vec", "store.vec", "code.vec", "slots.vec"],
+        files: &["rows.vec", "store.vec", "code.vec", "slots.vec", "write.vec"],
         real: &[],
     },
     Program {
@@ -204,6 +205,7 @@ fn kinds(function: usize, said: &[u8]) -> Vec<String> {
             out
         }
         SLOT_RECORDS => vec![format!("{} slots", (said.len() / 48).min(3))],
+        WRITE => vec![format!("{} bytes", (said.len() - 1).min(4))],
         LAST_BYTES | WALK_LAST_BYTES => {
             let runs = runs(&said[1..]);
             let mut out = vec![format!("{} runs", runs.len().min(4))];
@@ -220,7 +222,7 @@ fn wrongs(right: &Chosen) -> Result<Vec<Vec<u8>>, String> {
     let mut out = vec![changed(said, 0, |status| (status + 1) % 4)];
     match (said[0], right.call.function) {
         (0 | 3, _) => {}
-        (1, LISTING | LONG_LISTING | REG_NAME | RENDER_OPERAND | INSTRUCTION_TEXT) => {
+        (1, LISTING | LONG_LISTING | REG_NAME | RENDER_OPERAND | INSTRUCTION_TEXT | WRITE) => {
             out.extend([1, said.len() / 2, said.len() - 1].map(|at| flipped(said, at, 0)));
             out.push(said[..said.len() - 1].to_vec());
         }

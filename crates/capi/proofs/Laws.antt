@@ -1,13 +1,8 @@
 -- Laws of the numbers that C is told. Assumes nothing.
-use Prim.Native.Nat.{ℕ, _^_}
+use Prim.Native.Nat.{ℕ}
 use mathlib.Core.Path.{_≡_, refl, sym, ap, subst, _∙_}
 use mathlib.Core.List.{List}
 use native.Mathlib.Omega.{arith}
-use mir.Syntax.{w32, w64}
-use mir.Val.{SFits}
-use lib.IntN.{ℤ}
-use Rattle.words.specs.Signed.{modulo}
-use Rattle.words.proofs.Signs.{modulo-fits}
 use Rattle.function.specs.declared.PoolObject.{PoolObject}
 use Rattle.function.specs.Files.{Files}
 use Rattle.steps.specs.Steps.{Source}
@@ -16,14 +11,7 @@ use Rattle.walk.specs.declared.Walked.the-variants as walked
 use Rattle.walk.specs.Walk.{WalkedAs, Promise, lentSource, walkLent}
 use Rattle.walk.proofs.Numbers.{walked-numbers-one}
 use Rattle.walk.proofs.Rows.{WalkedRow, walk-lent-row}
-use Rattle.capi.specs.Told.{walkNumbers, walkTold, WalkPromise, told64}
-
--- ---- signed numbers
-pub told-wide : (z : ℤ) → SFits w64 z → modulo (2 ^ 64) z ≡ told64 z
-told-wide z h = modulo-fits w64 z h
-
-pub told-narrow : (z : ℤ) → SFits w32 z → modulo (2 ^ 64) z ≡ told64 z
-told-narrow z h = modulo-fits w64 z (record { sfits = omega (arith, h .sfits) })
+use Rattle.capi.specs.Told.{walkNumbers, walkTold, WalkPromise}
 
 -- ---- a walk check's answer
 promise-told : (s : Source) (M : List ℕ) (w : Walked) → Promise s w M → WalkedRow w → let n = walkNumbers w in WalkPromise s M (n .0) (n .1) (n .2)

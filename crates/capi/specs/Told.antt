@@ -5,22 +5,44 @@ use mathlib.Core.List.{List, [], _∷_, map}
 use mathlib.Core.Bool.{cond}
 use lib.Dec.{eqb}
 use lib.IntN.{ℤ, natAbs}
-use mir.Syntax.{w64}
-use mir.Val.{ofZ}
+use Rattle.refusal.specs.declared.Check.{Check}
+use Rattle.refusal.specs.declared.Check.the-variants.{Ok, Refused}
+use Rattle.refusal.specs.Check.{refusalAt}
 use Rattle.refusal.specs.Numbers.{Numbers}
+use Rattle.numbers.specs.Told.{told64}
 use Rattle.function.specs.declared.PoolObject.{PoolObject}
 use Rattle.function.specs.declared.PoolObject.the-variants as pool-object
 use Rattle.steps.specs.Steps.{Source}
 use Rattle.text.specs.declared.Written.{Written}
+use Rattle.text.specs.declared.Written.the-variants as written
 use Rattle.text.specs.Numbers.{writtenNumbers}
+use Rattle.numbers.specs.Back.{opcodeKnown, toldInstr}
+use Rattle.writer.specs.Write.{checkScale, writeCall, ReadsBack}
 use Rattle.walk.specs.declared.Walked.{Walked}
 use Rattle.walk.specs.declared.Walked.the-variants as walked
 use Rattle.walk.specs.Numbers.{walkedNumbers}
 use Rattle.walk.specs.Walk.{Promise}
 
--- The answer of a listing in 01's numbers, as it is told: its number, and its place, which of an answer is the listing's length; then the buffer.
-abbrev pub listTold : Written × List ℕ → ℕ × ℕ × List ℕ
-listTold a = let n = writtenNumbers (a .0) in (n .number, n .place, a .1)
+-- The answer of a call that writes into a buffer in 01's numbers, as it is told: its number, and its place, which of an answer is the length of what
+-- is written; then the buffer.
+abbrev pub writtenTold : Written → ℕ × ℕ
+writtenTold w = let n = writtenNumbers w in (n .number, n .place)
+
+abbrev pub bufferTold : Written × List ℕ → ℕ × ℕ × List ℕ
+bufferTold a = let n = writtenTold (a .0) in (n .0, n .1, a .1)
+
+-- What 28 numbers ask to be written into a buffer. "22: no such opcode" where the first is no opcode's; what is checked before it comes before it.
+abbrev pub noOpcode : Check → Written
+noOpcode Ok = written.Refused (refusalAt 22 0)
+noOpcode (Refused r) = written.Refused r
+
+unfoldable pub writeNumbers : List ℕ → List ℕ → List ℕ → List ℕ → List ℕ → Written × List ℕ
+writeNumbers ops types layout ns out =
+    cond (opcodeKnown ns) (writeCall ops types layout (toldInstr ns) out) (noOpcode (checkScale ops types layout (toldInstr ns .scale)), out)
+
+-- "Decoding what was written gives back scale, opcode and operands": where 0 is told, of the place and the buffer
+abbrev pub WriteReads : List ℕ → List ℕ → List ℕ → List ℕ → ℕ → ℕ → List ℕ → Type 0
+WriteReads ops types layout ns number place o′ = number ≡ 0 → ReadsBack ops types layout (toldInstr ns) (written.Done place) o′
 
 -- the steps that a walk check's numbers tell: their value, or 0 where they have none
 abbrev pub stepsIn : List ℤ → ℕ
@@ -44,10 +66,6 @@ pub record WalkPromise (s : Source) (M : List ℕ) (number steps place : ℕ) : 
 -- whether an object is lent for lent code, 0 if not, and its number
 abbrev pub poolObject : ℕ → ℕ → PoolObject
 poolObject lent n = cond (eqb lent 0) pool-object.Nothing (pool-object.Object n)
-
--- a value in 64 bits: a negative one in two's complement
-abbrev pub told64 : ℤ → ℕ
-told64 v = ofZ w64 v
 
 -- k values: those of an answer, and 0 for one that is not there
 abbrev pub valuesTold : ℕ → List ℤ → List ℕ

@@ -1,17 +1,16 @@
-// The calls for C and Rust: numbers and lent bytes in, one number out. 0 is an answer, 1 to 20 a refusal's number, 255 the end of the
+// The calls for C and Rust: numbers and lent bytes in, one number out. 0 is an answer, 1 to 23 a refusal's number, 255 the end of the
 // code, 254 a walk that leaves. The place, or the answer's length, is written behind a pointer. All that is lent to a call is a parameter of its
 // own, and so is each number of its answer: the calls on lent code have twelve or thirteen parameters.
 
-use decoder::Instr;
 use decoder::Outcome;
 use function::PoolObject;
 use jumps::EntryAnswer;
 use jumps::TargetAnswer;
-use operand::Operand;
+use refusal::Check;
+use refusal::Refusal;
 use text::Written;
 use walk::Walked;
 ghost use mathlib.Core.Path.{_≡_};
-ghost use Prim.Native.Nat.{_<_};
 ghost use Rattle.function.specs.Files.{Files, filesOf, lentFiles};
 ghost use Rattle.disasm.specs.Listing.{listCall};
 ghost use Rattle.decoder.specs.declared.Decoded.{Decoded};
@@ -20,8 +19,7 @@ ghost use Rattle.bytecode.specs.Numbers.{decodedNumbers};
 ghost use Rattle.jumps.specs.Jumps.{targetCall, entryCall};
 ghost use Rattle.jumps.specs.Numbers.{targetNumbers, entryNumbers};
 ghost use Rattle.walk.specs.Walk.{objectSource, walkCall, lentSource, walkLent};
-ghost use Rattle.capi.specs.Told.{listTold, walkNumbers, walkTold, WalkPromise, poolObject, told64, numbersTold, decodeTold};
-ghost use Rattle.capi.specs.mirror.Instr.{operandIn, operandNumber, instrNumber, NumbersAre};
+ghost use Rattle.capi.specs.Told.{writtenTold, bufferTold, noOpcode, writeNumbers, WriteReads, walkNumbers, walkTold, WalkPromise, poolObject, numbersTold, decodeTold};
 
 // The listing of an object into `out`: its length in `place`, or the refusal's place, with `out` as it was.
 #[no_mangle]
@@ -40,7 +38,7 @@ pub extern "C" fn jscd_list(
 ) -> u8
     ensures { λ r. let f : Files = filesOf (now (opcodes .entry)) (now (types .entry)) (now (runtime .entry)) (now (intrinsic .entry))
         (now (layout .entry)) (now (objects .entry)) (now (slots .entry)) (now (payload .entry)) in
-        ⌜ (r, now (place .exit), now (out .exit)) ≡ listTold (listCall f object (now (out .entry))) ⌝ }
+        ⌜ (r, now (place .exit), now (out .exit)) ≡ bufferTold (listCall f object (now (out .entry))) ⌝ }
 {
     let listed = disasm::list(
         out,
@@ -54,7 +52,52 @@ pub extern "C" fn jscd_list(
         payload,
         object,
     );
-    match listed {
+    tell_written(listed, place)
+}
+
+// The bytes of the instruction that 28 numbers tell, as jscd_decode tells them, into `out`: their number in `place`, or the refusal's place, with `out`
+// as it was. Where the instruction ends is not read.
+#[no_mangle]
+pub extern "C" fn jscd_write(
+    out: &mut [u8],
+    opcodes: &[u8],
+    types: &[u8],
+    layout: &[u8],
+    numbers: &[u64; 28],
+    place: &mut usize,
+) -> u8
+    ensures { λ r. ⌜ ((r, now (place .exit), now (out .exit)) ≡ bufferTold (writeNumbers (now (opcodes .entry)) (now (types .entry)) (now (layout .entry))
+        (now (numbers .entry)) (now (out .entry))))
+        × WriteReads (now (opcodes .entry)) (now (types .entry)) (now (layout .entry)) (now (numbers .entry)) r (now (place .exit)) (now (out .exit)) ⌝ }
+{
+    let known = numbers::opcode_known(numbers);
+    let instr = numbers::instr_of(numbers);
+    if !known {
+        let check = writer::check_scale(opcodes, types, layout, instr.scale);
+        return tell_written(no_opcode(check), place);
+    }
+    let written = writer::write(out, opcodes, types, layout, instr);
+    tell_written(written, place)
+}
+
+// The refusal of an opcode that no table has, behind what is checked before it.
+fn no_opcode(check: Check) -> Written
+    ensures { λ r. ⌜ r ≡ noOpcode check ⌝ }
+{
+    match check {
+        Check::Refused(refusal) => Written::Refused(refusal),
+        Check::Ok => Written::Refused(Refusal {
+            number: refusal::WRONG_OPCODE,
+            place: 0,
+        }),
+    }
+}
+
+// The numbers of an answer of a call that writes into a buffer.
+fn tell_written(written: Written, place: &mut usize) -> u8
+    ensures { λ r. ⌜ (r, now (place .exit)) ≡ writtenTold written ⌝ }
+{
+    match written {
         Written::Done(n) => {
             *place = n;
             0
@@ -285,7 +328,7 @@ fn tell_entry(answer: EntryAnswer, at: usize, place: &mut usize, values: &mut [u
     match answer {
         EntryAnswer::Shown { case, target } => {
             *place = 0;
-            *values = [1, bits_of(case), target];
+            *values = [1, numbers::bits_of(case), target];
             0
         }
         EntryAnswer::Skipped => {
@@ -346,120 +389,9 @@ pub extern "C" fn jscd_decode(
         }
         Outcome::Done => {
             *place = instr.end;
-            let told = instr_numbers(instr);
+            let told = numbers::instr_numbers(instr);
             *numbers = told;
             0
         }
-    }
-}
-
-// The 28 numbers of an instruction.
-fn instr_numbers(instr: Instr) -> [u64; 28]
-    ensures { λ r. ⌜ NumbersAre instr r 28 ⌝ }
-{
-    let mut numbers = [0u64; 28];
-    let mut k: u8 = 0;
-    while k < 28 {
-        let v = instr_number(instr, k);
-        numbers[k as usize] = v;
-        k += 1;
-    }
-    numbers
-}
-
-// Number k of an instruction.
-fn instr_number(instr: Instr, k: u8) -> u64
-    requires { ⌜ k < 28 ⌝ }
-    ensures { λ r. ⌜ r ≡ instrNumber instr k ⌝ }
-{
-    match k {
-        0 => instr.opcode as u64,
-        1 => instr.scale as u64,
-        2 => instr.end as u64,
-        3 => instr.count as u64,
-        _ => {
-            let j = k - 4;
-            operand_number(operand_in(instr, j / 3), j % 3)
-        }
-    }
-}
-
-// The operand in place j of the eight.
-fn operand_in(instr: Instr, j: u8) -> Operand
-    requires { ⌜ j < 8 ⌝ }
-    ensures { λ r. ⌜ r ≡ operandIn instr j ⌝ }
-{
-    let at = j as usize;
-    let op = instr.operands[at];
-    op.operand
-}
-
-// Number j of an operand: its kind, then two numbers.
-fn operand_number(op: Operand, j: u8) -> u64
-    requires { ⌜ j < 3 ⌝ }
-    ensures { λ r. ⌜ r ≡ operandNumber op j ⌝ }
-{
-    match j {
-        0 => kind_number(op),
-        1 => first_number(op),
-        _ => second_number(op),
-    }
-}
-
-fn kind_number(op: Operand) -> u64
-    ensures { λ r. ⌜ r ≡ operandNumber op 0 ⌝ }
-{
-    match op {
-        Operand::Nothing => 0,
-        Operand::Reg(_) => 1,
-        Operand::RegList { first, count } => 2,
-        Operand::Imm(_) => 3,
-        Operand::Idx(_) => 4,
-        Operand::Flag8(_) => 5,
-        Operand::Flag16(_) => 6,
-        Operand::RuntimeId(_) => 7,
-        Operand::IntrinsicId(_) => 8,
-        Operand::Raw { ty, value } => 9,
-    }
-}
-
-fn first_number(op: Operand) -> u64
-    ensures { λ r. ⌜ r ≡ operandNumber op 1 ⌝ }
-{
-    match op {
-        Operand::Nothing => 0,
-        Operand::Reg(i) => bits_of(i),
-        Operand::RegList { first, count } => bits_of(first),
-        Operand::Imm(v) => words::bits64(v),
-        Operand::Idx(v) => v as u64,
-        Operand::Flag8(v) => v as u64,
-        Operand::Flag16(v) => v as u64,
-        Operand::RuntimeId(v) => v as u64,
-        Operand::IntrinsicId(v) => v as u64,
-        Operand::Raw { ty, value } => ty as u64,
-    }
-}
-
-// The 64 bits of a signed number.
-fn bits_of(i: i32) -> u64
-    ensures { λ r. ⌜ r ≡ told64 i ⌝ }
-{
-    words::bits64(words::wide(i))
-}
-
-fn second_number(op: Operand) -> u64
-    ensures { λ r. ⌜ r ≡ operandNumber op 2 ⌝ }
-{
-    match op {
-        Operand::Nothing => 0,
-        Operand::Reg(_) => 0,
-        Operand::RegList { first, count } => count as u64,
-        Operand::Imm(_) => 0,
-        Operand::Idx(_) => 0,
-        Operand::Flag8(_) => 0,
-        Operand::Flag16(_) => 0,
-        Operand::RuntimeId(_) => 0,
-        Operand::IntrinsicId(_) => 0,
-        Operand::Raw { ty, value } => value,
     }
 }

@@ -13,7 +13,7 @@ use Rattle.decoder.specs.declared.Decoded.{Decoded}
 use Rattle.decoder.proofs.Passing.{allOf, restOf, PassInv, pass-start, pass-refused, pass-end, pass-instrs, pass-done}
 use Rattle.function.specs.Code.{codeCheck}
 use Rattle.lines.specs.Line.{View, lineText}
-use Rattle.lines.proofs.PutUpTo.{PutUpTo, up-to-none, up-to-more, up-to-all}
+use Rattle.text.proofs.PutUpTo.{PutUpTo, up-to-none, up-to-more, up-to-all}
 use Rattle.disasm.specs.Listing.{linesText}
 
 module _ (v : View) (d : ℕ → Decoded) (len : ℕ) where

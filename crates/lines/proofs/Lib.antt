@@ -1,3 +1,2 @@
-pub mod PutUpTo
 pub mod Laws
 pub mod Room

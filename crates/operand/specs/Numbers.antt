@@ -1,6 +1,8 @@
 -- An operand in three numbers: its kind and two more. Kinds are numbered as the Rust's `Operand` names them, from 1 on.
+use Prim.Native.Nat.{ℕ}
 use mathlib.Core.List.{List, [], _∷_}
 use lib.IntN.{ℤ, pos}
+use lib.ListN.{getD}
 use Rattle.operand.specs.declared.Operand.{Operand}
 use Rattle.operand.specs.declared.Operand.the-variants.{Nothing, Reg, RegList, Imm, Idx, Flag8, Flag16, RuntimeId, IntrinsicId, Raw}
 
@@ -16,3 +18,7 @@ operandNumbers (Flag16 v) = pos 6 ∷ pos v ∷ pos 0 ∷ []
 operandNumbers (RuntimeId v) = pos 7 ∷ pos v ∷ pos 0 ∷ []
 operandNumbers (IntrinsicId v) = pos 8 ∷ pos v ∷ pos 0 ∷ []
 operandNumbers (Raw ty value) = pos 9 ∷ pos ty ∷ pos value ∷ []
+
+-- number j of an operand: 0 its kind, 1 and 2 the others
+abbrev pub numberOf : Operand → ℕ → ℤ
+numberOf o j = getD (operandNumbers o) j (pos 0)

@@ -1,5 +1,6 @@
 // One recorded call: our own function is asked on the same files, and its answer compared with the recorded one. A further function
 // is an arm in `replayed` and a function of its own, here, in `slots` or in `instructions`.
+use crate::for_c;
 use crate::instructions;
 use crate::slots;
 use serializer::Elem;
@@ -35,6 +36,7 @@ pub fn replayed(bytes: &[u8], files: Files, f: u8, body: Part) -> Outcome {
         17 => judged(instructions::instruction_text(bytes, files, call)),
         18 => judged(instructions::last_bytes(bytes, files, call)),
         25 => judged(slots::slot_records(bytes, files, call)),
+        26 => for_c::write(bytes, files, call),
         0..=10 => Outcome::NotHere,
         _ => Outcome::Differs,
     }

@@ -1,4 +1,4 @@
-// The call for C that decodes one instruction.
+// The calls for C that decode and write one instruction.
 use refusal::Refusal;
 use vectors::counts::Outcome;
 use vectors::counts::judged;
@@ -87,4 +87,49 @@ fn number(said: &[u8], count: u64, k: u8) -> u64 {
         return std::num::wrapping_add_u64(recorded, 1);
     }
     recorded
+}
+
+// 26: the bytes of an instruction, into a buffer of the recorded length.
+pub fn write(bytes: &[u8], files: Files, call: &[u8]) -> Outcome {
+    let mut out = [7u8; 200];
+    judged(write_in(bytes, files, call, &mut out))
+}
+
+fn write_in(bytes: &[u8], files: Files, call: &[u8], out: &mut [u8]) -> bool {
+    let len = text::min(words::u64_at(call, 224) as usize, out.len());
+    is_written(bytes, files, call, &mut out[..len])
+}
+
+// Behind what was written, and after a refusal, the buffer is as it was.
+fn is_written(bytes: &[u8], files: Files, call: &[u8], out: &mut [u8]) -> bool {
+    let mut place: usize = 7;
+    let numbers = numbers_of(call);
+    let status = capi::jscd_write(
+        out,
+        file(bytes, files, 0),
+        file(bytes, files, 1),
+        file(bytes, files, 4),
+        &numbers,
+        &mut place,
+    );
+    let said = behind(call, 232);
+    if status == 0 {
+        return said::is_text(said, out, place) && said::are_kept(out, place);
+    }
+    let refusal = Refusal {
+        number: status,
+        place,
+    };
+    said::is_refused(said, refusal) && said::are_kept(out, 0)
+}
+
+// The 28 numbers that a call begins with.
+fn numbers_of(call: &[u8]) -> [u64; 28] {
+    let mut numbers = [0u64; 28];
+    let mut k: usize = 0;
+    while k < 28 {
+        numbers[k] = words::u64_at(call, 8 * k);
+        k += 1;
+    }
+    numbers
 }

@@ -30,7 +30,11 @@ fn main() {
     let store = both(replay(b"store.vec"), replay(b"slots.vec"));
     let code = replay(b"code.vec");
     let v8 = replay(b"v8.vec");
-    print_total(both(both(rows, store), both(code, v8)));
+    let written = both(
+        replay(b"write.vec"),
+        both(replay(b"write-code.vec"), replay(b"write-v8.vec")),
+    );
+    print_total(both(both(rows, store), both(both(code, v8), written)));
     print_wrong(replay(b"wrong.vec"));
 }
 

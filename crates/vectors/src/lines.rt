@@ -152,12 +152,13 @@ fn print_whole(row: u8) {
     }
 }
 
-// From 27 on: calls for C.
+// From 26 on: calls for C.
 fn print_other(row: u8) {
     match row {
         23 => put(b"header"),
         24 => put(b"jump_entry"),
         25 => put(b"slot_records"),
+        26 => put(b"jscd_write"),
         27 => put(b"jscd_list"),
         28 => put(b"jscd_walk"),
         29 => put(b"jscd_decode"),

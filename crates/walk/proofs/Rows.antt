@@ -91,7 +91,7 @@ fault-row fault n most =
     least zero h = clash (eq-eqb 0 0 refl) (not-true (eqb 0 0) h)
     least (suc v) h = omega arith
 
-table-row : (ops types runtime intrinsic layout : List ℕ) → RowOf (checkTable ops types runtime intrinsic layout)
+pub table-row : (ops types runtime intrinsic layout : List ℕ) → RowOf (checkTable ops types runtime intrinsic layout)
 unfolding checkTable
 table-row ops types runtime intrinsic layout =
     let right = records opcodeSize 1 mostOpcodes ops && records typeSize fixedTypes mostTypes types && records nameSize 0 mostRuntime runtime && records nameSize 0 mostIntrinsic intrinsic && records layoutSize 1 1 layout in

@@ -5,8 +5,8 @@ use mathlib.Core.Bool.{Bool, true, false, cond}
 use native.Mathlib.Omega.{arith}
 use native.Mathlib.Nat.{not-suc-le-zero, mod-eq-of-lt, lt-of-lt-of-le, pow-le-pow-right}
 use mathlib.Core.Logic.{⊎-elim}
-use Rattle.laws.proofs.Tests.{same?}
-use borrow.Author.Tests.{le-ltb, ltb-true, ltb-false, eq-eqb, ne-eqb}
+use Rattle.laws.proofs.Tests.{same?, clash}
+use borrow.Author.Tests.{le-ltb, ltb-true, ltb-false, eq-eqb, eqb-true, ne-eqb}
 use lib.Dec.{ltb, eqb}
 use lib.IntN.{ℤ, pos, negsuc, natAbs, negℤ, _+ℤ_, _-ℤ_}
 use lib.Signed.{ltZ, mag, quotZ}
@@ -80,15 +80,15 @@ module _ (w : Width) (z : ℤ) (fits : SFits w z) where
     pub modulo-pos : modulo (2 ^ bits w) z ≡ mag z
     modulo-pos = modulo-fits w z fits ∙ ap (ofZ w) (is-pos z (read h))
 
--- ---- 32 bits read as signed: what the code of `signed32` computes for bits with the highest set
-module _ (x : ℕ) (high : 2 ^ 31 ≤ x) (fits : x < 2 ^ 32) where
-  pub not-high : negsuc 0 -ℤ toZ w32 (4294967295 - x) ≡ negsuc (4294967295 - x)
-  not-high = ap (λ (y : ℤ). negsuc 0 -ℤ y) (toZ-pos w32 (4294967295 - x) (omega arith)) ∙ not-pos (4294967295 - x)
+-- ---- bits read as signed: what the code of `signed32` and `signed64` computes for bits with the highest set; m has all bits set
+module _ (w : Width) (m x : ℕ) (all : suc m ≡ 2 ^ bits w) (twice : 2 ^ bits w ≡ 2 ^ hbits w + 2 ^ hbits w) (high : 2 ^ hbits w ≤ x) (fits : x < 2 ^ bits w) where
+  pub not-high : negsuc 0 -ℤ toZ w (m - x) ≡ negsuc (m - x)
+  not-high = ap (λ (y : ℤ). negsuc 0 -ℤ y) (toZ-pos w (m - x) (omega arith)) ∙ not-pos (m - x)
 
-  pub toZ-high : toZ w32 x ≡ negsuc (4294967295 - x)
-  toZ-high = rw (le-ltb x (2 ^ 31) high) (ap negsuc (omega arith))
+  pub toZ-high : toZ w x ≡ negsuc (m - x)
+  toZ-high = rw (le-ltb x (2 ^ hbits w) high) (ap negsuc (omega arith))
 
-  pub high-fits : SFits w32 (negsuc (4294967295 - x))
+  pub high-fits : SFits w (negsuc (m - x))
   high-fits = record { sfits = omega arith }
 
 -- what is read back of a result z that the bits d give
@@ -163,15 +163,27 @@ extended v size = go (eqb size 1) (eqb size 2)
     go false true = extend-law (2 ^ 15) (v % 2 ^ 16) (omega arith) (omega arith)
     go false false = refl
 
--- ---- equality of signed numbers, from the test on their bits
-pub same-bits : (a b : ℤ) → SFits w32 a → SFits w32 b → eqb (ofZ w32 a) (ofZ w32 b) ≡ eqZ a b
-same-bits (pos a) (pos b) fa fb = refl
-same-bits (pos a) (negsuc b) fa fb = ne-eqb a (2 ^ 32 - suc b) (λ e. omega arith)
-same-bits (negsuc a) (pos b) fa fb = ne-eqb (2 ^ 32 - suc a) b (λ e. omega arith)
-same-bits (negsuc a) (negsuc b) fa fb = ⊎-elim
-    (λ (e : a ≡ b). eq-eqb (2 ^ 32 - suc a) (2 ^ 32 - suc b) (omega arith) ∙ sym (eq-eqb a b e))
-    (λ (n : a ≡ b → ⊥). ne-eqb (2 ^ 32 - suc a) (2 ^ 32 - suc b) (λ e. n (omega arith)) ∙ sym (ne-eqb a b n))
-    (same? a b)
+-- ---- equality of integers
+pub eqZ-true : (a b : ℤ) → eqZ a b ≡ true → a ≡ b
+eqZ-true (pos a) (pos b) h = ap pos (eqb-true a b h)
+eqZ-true (pos a) (negsuc b) h = clash h refl
+eqZ-true (negsuc a) (pos b) h = clash h refl
+eqZ-true (negsuc a) (negsuc b) h = ap negsuc (eqb-true a b h)
+
+pub eqZ-same : (a : ℤ) → eqZ a a ≡ true
+eqZ-same (pos a) = eq-eqb a a refl
+eqZ-same (negsuc a) = eq-eqb a a refl
+
+-- and of signed numbers, from the test on their bits
+pub same-bits : (w : Width) (a b : ℤ) → SFits w a → SFits w b → eqb (ofZ w a) (ofZ w b) ≡ eqZ a b
+same-bits w a b fa fb = go (eqZ a b) refl
+  where
+    go : (t : Bool) → eqZ a b ≡ t → eqb (ofZ w a) (ofZ w b) ≡ t
+    go true e = eq-eqb (ofZ w a) (ofZ w b) (ap (ofZ w) (eqZ-true a b e))
+    go false e = ne-eqb (ofZ w a) (ofZ w b)
+        (λ h.
+        let same : a ≡ b = sym (toZ-ofZ fa) ∙ ap (toZ w) h ∙ toZ-ofZ fb in
+        clash (eqZ-same a) (ap (eqZ a) same ∙ e))
 
 -- ---- shorter numbers fit
 mag-neg : (k : ℕ) → mag (negℤ (pos k)) ≤ k

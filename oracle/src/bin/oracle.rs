@@ -10,7 +10,7 @@ use oracle::vectors::{self, Writer};
 use oracle::{cases, code_recording, instructions, recording, sample, v8};
 use oracle::{entry_recording, header_recording, jump_recording, list_recording, named};
 use oracle::{programs, slot_recording, v8_lists};
-use oracle::{walk_classes, walk_recording, walk_short, walk_v8, wrong};
+use oracle::{walk_classes, walk_recording, walk_short, walk_v8, write_recording, wrong};
 use std::path::Path;
 use std::process::ExitCode;
 
@@ -29,6 +29,7 @@ const USAGE: &str = "usage:
   oracle record-layout OUT            the same for the sample's header by good and bad layouts
   oracle record-slots SEED OUT        the same for all slot records of a store
   oracle record-entry SEED OUT        the same for single entries of switches
+  oracle record-write FOLDER OUT..    write vectors of writing (three files), out of FOLDER's recordings, and count their classes
   oracle record-wrong FOLDER PROGRAM OUT   write calls of FOLDER's recordings that PROGRAM asks, one thing changed in each answer
   oracle record-v8 FOLDER OUT         write vectors of what V8 printed (v8-listings), and count them
   oracle record-v8-list FOLDER OUT    write vectors of V8's whole listings, and count them
@@ -64,6 +65,7 @@ fn main() -> ExitCode {
         ["record-layout", out] => record_layout(out),
         ["record-slots", seed, out] => record_slots(seed, out),
         ["record-entry", seed, out] => record_entry(seed, out),
+        ["record-write", folder, out @ ..] => record_write(Path::new(folder), out),
         ["record-wrong", folder, program, out] => record_wrong(Path::new(folder), program, out),
         ["record-named", out] => record_named(out),
         ["record-v8-list", folder, out] => record_v8_list(Path::new(folder), out),
@@ -203,6 +205,14 @@ fn record_entry(seed: &str, out: &str) -> Result<bool, String> {
     classified(out, &recording.writer, &recording.classes, &entry_recording::wanted())
 }
 
+fn record_write(folder: &Path, out: &[&str]) -> Result<bool, String> {
+    if out.len() != write_recording::PARTS.len() {
+        return Err(format!("record-write writes {} files", write_recording::PARTS.len()));
+    }
+    let recording = write_recording::record(folder)?;
+    parts(out, &recording.writers, &recording.classes, &write_recording::wanted())
+}
+
 fn record_wrong(folder: &Path, program: &str, out: &str) -> Result<bool, String> {
     let named = wrong::PROGRAMS.iter().find(|p| p.name == program);
     let recording = wrong::record(named.ok_or(format!("no program {program}"))?, folder)?;
@@ -293,14 +303,24 @@ fn record_walk(seed: &str, out: &[&str]) -> Result<bool, String> {
         return Err(format!("record-walk writes {} files", walk_recording::PARTS));
     }
     let recording = walk_recording::record(word(seed)?)?;
+    parts(out, &recording.writers, &recording.classes, &walk_classes::wanted())
+}
+
+/// The same as `classified` for vectors in several files.
+fn parts(
+    out: &[&str],
+    writers: &[Writer],
+    classes: &Classes,
+    wanted: &[String],
+) -> Result<bool, String> {
     let mut calls = 0;
-    for (out, vectors) in out.iter().zip(&recording.writers) {
+    for (out, vectors) in out.iter().zip(writers) {
         std::fs::write(out, &vectors.out).map_err(|e| format!("{out}: {e}"))?;
         println!("{out}: {} calls, {} bytes", vectors.calls, vectors.out.len());
         calls += vectors.calls;
     }
-    print!("{}", recording.classes.report());
-    let missing = recording.classes.missing(&walk_classes::wanted());
+    print!("{}", classes.report());
+    let missing = classes.missing(wanted);
     for class in &missing {
         println!("no case of {class}");
     }

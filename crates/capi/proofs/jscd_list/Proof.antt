@@ -1,4 +1,7 @@
-use mathlib.Core.Path.{refl}
+use denote.Ref.{now}
+use Rattle.function.specs.Files.{filesOf}
+use Rattle.disasm.specs.Listing.{listCall}
+use Rattle.capi.proofs.Writes.{buffer-told}
 use borrow.Author.Needs.{needs}
 use Rattle.capi.proofs.jscd_list.Statement.{statement}
 use Rattle.capi.proofs.jscd_list.Tie as tie
@@ -6,32 +9,17 @@ use Rattle.capi.proofs.jscd_list.Tie as tie
 list-requires : tie.Need-list-requires
 list-requires c κs = search needs
 
-enum-known-listed : tie.Need-enum-known-listed
-enum-known-listed c = search needs
-
-enum-known-listed-2 : tie.Need-enum-known-listed-2
-enum-known-listed-2 c = search needs
+tell-written-requires : tie.Need-tell-written-requires
+tell-written-requires c κs = search needs
 
 same-length : tie.Need-same-length
 same-length c = search needs
 
 returns : tie.Need-returns
-returns c = rw (← c .before .before .before .before .before .list .ensures .0, ← c .before .before .before .before .before .list .ensures .1, c .before .listed .given .1) refl
-
-same-length-2 : tie.Need-same-length-2
-same-length-2 c = search needs
-
-returns-2 : tie.Need-returns-2
-returns-2 c = rw (← c .before .before .before .before .before .list .ensures .0, ← c .before .before .before .before .before .list .ensures .1, c .before .listed2 .given .1) refl
+returns c =
+    let a = c .before .before .before .before .before .before .before .before .before .before .before .before .before .before .before .args in
+    let f = filesOf (now (a .opcodes)) (now (a .types)) (now (a .runtime)) (now (a .intrinsic)) (now (a .layout)) (now (a .objects)) (now (a .slots)) (now (a .payload)) in
+    buffer-told (listCall f (a .object) (now (a .out))) (c .before .before .before .before .list .result) (c .before .before .before .before .list .ensures) (c .tell-written .ensures)
 
 pub jscd-list-spec : {M : Type 1} → statement M
-jscd-list-spec =
-    tie.close
-    (tie.spec
-    list-requires
-    enum-known-listed
-    enum-known-listed-2
-    same-length
-    returns
-    same-length-2
-    returns-2)
+jscd-list-spec = tie.close (tie.spec list-requires tell-written-requires same-length returns)

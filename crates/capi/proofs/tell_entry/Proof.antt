@@ -4,7 +4,7 @@ use mathlib.Core.List.{[], _∷_}
 use mir.Facts.{toZ-ofZ}
 use mir.Syntax.{w32}
 use mir.Val.{SFits}
-use Rattle.capi.specs.Told.{told64}
+use Rattle.numbers.specs.Told.{told64}
 use borrow.Author.Needs.{needs}
 use Rattle.capi.proofs.tell_entry.Statement.{statement}
 use Rattle.capi.proofs.tell_entry.Tie as tie

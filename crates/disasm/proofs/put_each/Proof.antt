@@ -18,7 +18,7 @@ use Rattle.decoder.proofs.Tiles.{decode-says}
 use Rattle.flow.specs.Opcodes.{opcodesOf}
 use Rattle.function.specs.mirror.Function.{decodedBy}
 use Rattle.lines.specs.mirror.View.{viewOf}
-use Rattle.lines.proofs.PutUpTo.{up-to-kept}
+use Rattle.text.proofs.PutUpTo.{up-to-kept}
 use Rattle.disasm.proofs.Passing.{WriteInv, write-start, write-end, refused-at, end-at, done-at}
 use Rattle.disasm.proofs.put_each.Statement.{statement}
 use Rattle.disasm.proofs.put_each.Tie as tie

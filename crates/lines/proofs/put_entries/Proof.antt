@@ -10,7 +10,7 @@ use Rattle.targets.specs.mirror.Search.{PoolBlocked}
 use Rattle.targets.specs.Targets.{entryAt}
 use Rattle.lines.specs.mirror.View.{elemsOf}
 use Rattle.lines.specs.Line.{entriesFrom, entryText, shownAfter}
-use Rattle.lines.proofs.PutUpTo.{PutUpTo, up-to-none, up-to-more, up-to-all}
+use Rattle.text.proofs.PutUpTo.{PutUpTo, up-to-none, up-to-more, up-to-all}
 use Rattle.lines.proofs.Laws.{entries-next, entries-end}
 use Rattle.lines.proofs.put_entries.Statement.{statement}
 use Rattle.lines.proofs.put_entries.Tie as tie

@@ -20,7 +20,7 @@ use Rattle.targets.specs.Targets.{operandOf}
 use Rattle.targets.proofs.Laws.{operand-some}
 use Rattle.lines.specs.Line.{before, operandsBy}
 use Rattle.lines.specs.mirror.View.{namesOf}
-use Rattle.lines.proofs.PutUpTo.{PutUpTo, up-to-none, up-to-more, up-to-all, up-to-kept}
+use Rattle.text.proofs.PutUpTo.{PutUpTo, up-to-none, up-to-more, up-to-all, up-to-kept}
 use Rattle.lines.proofs.Laws.{operands-next, operands-end}
 use Rattle.lines.proofs.put_instr.Statement.{statement}
 use Rattle.lines.proofs.put_instr.Tie as tie

@@ -1,0 +1,5 @@
+pub mod Fits
+pub mod Laws
+pub mod Instr
+pub mod Back
+pub mod Inverse

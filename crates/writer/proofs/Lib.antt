@@ -1,0 +1,10 @@
+pub mod Loops
+pub mod Numbers
+pub mod Operands
+pub mod Spans
+pub mod Types
+pub mod Heads
+pub mod Round
+pub mod Laws
+pub mod Again
+pub mod Whole

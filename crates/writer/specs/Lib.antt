@@ -1,0 +1,4 @@
+pub mod Bytes
+pub mod Write
+pub mod Narrow
+pub mod Whole
