@@ -1,4 +1,4 @@
--- Laws `decimal-small`, `decimal-hundreds`, `padded-four` and `column` (proofs/Texts.antt): the texts that are put by these are those of
+-- Laws `decimal-two`, `decimal-hundreds`, `padded-four` and `column` (proofs/Texts.antt): the texts that are put by these are those of
 -- ../Texts.antt.
 use Prim.Native.Nat.{ℕ, _+_, _/_, _%_}
 use mathlib.Core.Bool.{cond}
