@@ -143,7 +143,7 @@ fn walk_object(
         HeaderAnswer::At(h) => {
             if !is_held(h) {
                 return Walked::Refused(Refusal {
-                    number: refusal::EMPTY_CODE,
+                    number: refusal::CODE_NOT_HELD,
                     place: 0,
                 });
             }
