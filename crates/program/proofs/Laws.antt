@@ -34,7 +34,7 @@ use Rattle.function.specs.Pool.{poolOf}
 use Rattle.function.specs.Code.{headerCheck, headerAt, listingCheck}
 use Rattle.disasm.specs.Listing.{headerText, linesText, viewBy, listView, listHeader, listObject, listCall}
 use Rattle.walk.specs.declared.Walked.{Walked}
-use Rattle.walk.specs.Walk.{walkCheck, walkFound, walkSource, objectSource, Promise, walkCall}
+use Rattle.walk.specs.Walk.{walkCheck, walkFound, walkSource, heldCheck, objectSource, Promise, walkCall}
 use Rattle.walk.proofs.Answers.{promise-unless}
 use Rattle.program.specs.Printed.{refusalText, withinLimit, limitCheck, limited, told, shown, Printed, walkText, walkLimited, walkAnswer, walkShown, WalkPrinted}
 use Rattle.walk.specs.declared.Walked.the-variants as walked
@@ -154,13 +154,17 @@ walk-once : (a b : Check) (M : List ℕ) (x : Walked × List ℕ) → guardedOn 
 walk-once Ok b M x = refl
 walk-once (Refused r) b M x = refl
 
+-- what the walk check asks of the header: 9 and 19
+abbrev walkHeader : Files → Check
+walkHeader f = firstRefusal (headerCheck (headerAt f 0)) (heldCheck (headerAt f 0))
+
 pub walk-within : (f : Files) (M : List ℕ) → withinLimit (length (f .objects)) (length (f .slots)) (length (f .payload)) ≡ true → walkLimited f M ≡ walkCall f 0 M
 unfolding walkLimited walkCall
 walk-within f M h =
     let t = checkTable (f .opcodes) (f .types) (f .runtime) (f .intrinsic) (f .layout) in
     let b = firstRefusal (checkStore (f .objects) (f .slots) (f .payload)) (checkCodeObject (f .objects) 0) in
     let x = walkSource (objectSource f 0) M in
-    rw (h, or-assoc t b (headerCheck (headerAt f 0))) (walk-once t (firstRefusal b (headerCheck (headerAt f 0))) M x)
+    rw (h, or-assoc t b (walkHeader f)) (walk-once t (firstRefusal b (walkHeader f)) M x)
 
 -- the answer depends on how many marks there are, not on what they are
 unless-blind : (c c′ : Check) (M M′ : List ℕ) (x x′ : Walked × List ℕ) → c ≡ c′ → x .0 ≡ x′ .0 → guardedOn c walked.Refused M x .0 ≡ guardedOn c′ walked.Refused M′ x′ .0
@@ -176,7 +180,7 @@ walk-blind f M n e =
     let M′ : List ℕ = replicate n 0 in
     let s = objectSource f 0 in
     let same : length M ≡ length M′ = e ∙ sym (length-replicate {A = ℕ} n 0) in
-    let c = firstRefusal (checkFiles f 0) (headerCheck (headerAt f 0)) in
+    let c = firstRefusal (checkFiles f 0) (walkHeader f) in
     unless-blind (limitCheck f) (limitCheck f) M M′ (walkCall f 0 M) (walkCall f 0 M′) refl
     (unless-blind c c M M′ (walkSource s M) (walkSource s M′) refl
     (unless-blind (walkCheck s (length M)) (walkCheck s (length M′)) M M′ (walkFound s M) (walkFound s M′) (ap (walkCheck s) same) refl))
@@ -212,7 +216,7 @@ walk-printed f o whole w e {o′} {n} p =
 -- ---- demand 3
 call-promised : (f : Files) (M : List ℕ) → Promise (objectSource f 0) (walkCall f 0 M .0) (walkCall f 0 M .1)
 unfolding walkCall
-call-promised f M = promise-unless (objectSource f 0) (firstRefusal (checkFiles f 0) (headerCheck (headerAt f 0))) M (refl, refl)
+call-promised f M = promise-unless (objectSource f 0) (firstRefusal (checkFiles f 0) (walkHeader f)) M (refl, refl)
 
 walk-promised : (f : Files) (M : List ℕ) → Promise (objectSource f 0) (walkLimited f M .0) (walkLimited f M .1)
 unfolding walkLimited
