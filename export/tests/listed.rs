@@ -40,6 +40,14 @@ fn rust_listing(port: &Port) -> String {
     switches::listing(port, &decode::all(port, port.code(0)).unwrap()).unwrap()
 }
 
+/// The Rust's own listing, also by a table that leaves the layout to the fallback.
+fn own_listing(port: &Port) -> String {
+    let mut whole = String::new();
+    port.disassembler().open_render_sfi(port.shared_function_info(), "", &mut whole).unwrap();
+    let lines = whole.lines().skip(1).take_while(|l| !l.starts_with("Constant pool"));
+    lines.map(|l| format!("{l}\n")).collect()
+}
+
 /// What the records of the export say about the checks of document 01.
 fn exported_files(folder: &Path, function: &str) -> Files {
     let mut files = Files::default();
@@ -224,7 +232,7 @@ fn fallbacks_are_written_out() {
         port.table.parameter_count = None;
         let folder = folder(&format!("fallback{tagged_size}"));
         let written = export::write_all(&port.cache, &port.table, |_| "".into(), &folder).unwrap();
-        assert_eq!(listed(&folder, &written.functions[0]), rust_listing(&port));
+        assert_eq!(listed(&folder, &written.functions[0]), own_listing(&port));
     }
 }
 
