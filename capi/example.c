@@ -1,5 +1,6 @@
 /* Lists the function whose eight record files are in a folder, checks its walks, and by their tables decodes the first instruction of a small
-   code, writes it again and with another number, and finds the target of a jump and the walks of another, for which no object is lent.
+   code, writes it again and with another number, and finds the target of a jump and the walks of another, for which no object is lent; then
+   the walks of code that is empty.
      cc -Icapi/include capi/example.c target/staticlib/libcapi.a -o target/example && target/example crates/jscd_list/data */
 #include "jscd.h"
 #include <stdio.h>
@@ -25,6 +26,15 @@ static struct file read_file(const char *folder, const char *name) {
     file.length = fread(file.bytes, 1, MOST, from);
     fclose(from);
     return file;
+}
+
+static void print_walked(const char *what, uint8_t answer, size_t steps, size_t place) {
+    if (answer == JSCD_DONE)
+        printf("%sclosed\n", what);
+    else if (answer == JSCD_LEAVES)
+        printf("%sleaves steps %zu from %zu\n", what, steps, place);
+    else
+        printf("%srefused %d at %zu\n", what, answer, place);
 }
 
 int main(int argc, char **argv) {
@@ -54,12 +64,7 @@ int main(int argc, char **argv) {
     answer = jscd_walk(marks, sizeof marks, f[0].bytes, f[0].length, f[1].bytes, f[1].length, f[2].bytes, f[2].length, f[3].bytes,
                        f[3].length, f[4].bytes, f[4].length, f[5].bytes, f[5].length, f[6].bytes, f[6].length, f[7].bytes,
                        f[7].length, 0, &steps, &place);
-    if (answer == JSCD_DONE)
-        printf("closed\n");
-    else if (answer == JSCD_LEAVES)
-        printf("leaves steps %zu from %zu\n", steps, place);
-    else
-        printf("refused %d at %zu\n", answer, place);
+    print_walked("", answer, steps, place);
 
     static const uint8_t code[] = {0x03, 0xff};
     uint64_t numbers[JSCD_NUMBERS];
@@ -89,5 +94,14 @@ int main(int argc, char **argv) {
                             f[4].length, none, 0, none, 0, none, 0, 0, 0, &steps, &place);
     if (answer == JSCD_DONE)
         printf("closed, marks %d %d %d\n", marks[0], marks[1], marks[2]);
+
+    /* A BytecodeArray without a slot, and lent code of no bytes; neither needs a mark. */
+    static const uint8_t placeholder[16] = {1};
+    answer = jscd_walk(marks, 0, f[0].bytes, f[0].length, f[1].bytes, f[1].length, f[2].bytes, f[2].length, f[3].bytes, f[3].length,
+                       f[4].bytes, f[4].length, placeholder, sizeof placeholder, none, 0, none, 0, 0, &steps, &place);
+    print_walked("empty function: ", answer, steps, place);
+    answer = jscd_walk_code(marks, 0, none, 0, f[0].bytes, f[0].length, f[1].bytes, f[1].length, f[4].bytes, f[4].length, none, 0,
+                            none, 0, none, 0, 0, 0, &steps, &place);
+    print_walked("empty lent code: ", answer, steps, place);
     return 0;
 }

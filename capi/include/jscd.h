@@ -41,7 +41,9 @@ uint8_t jscd_list(uint8_t *out, size_t out_len,
    JSCD_DONE: no walk leaves; *steps and *place are 0, and a mark is 1 where a walk comes by, 0 elsewhere.
    JSCD_LEAVES: a shortest walk that leaves has *steps steps, and *place is the lowest offset that such a one leaves from; a mark is 1 where
    a walk comes by in fewer steps.
-   A refusal: *steps is 0, *place its place, and `marks` is as it was. */
+   A refusal: *steps is 0, *place its place, and `marks` is as it was.
+   Empty code, of length 0 or of an object in which no length is found, is JSCD_DONE, and no mark is written; marks_len may be 0. Number 19 is
+   given where the length is above 0 and no run holds the code, whatever marks_len is. */
 uint8_t jscd_walk(uint8_t *marks, size_t marks_len,
                   const uint8_t *opcodes, size_t opcodes_len,
                   const uint8_t *types, size_t types_len,
@@ -56,7 +58,7 @@ uint8_t jscd_walk(uint8_t *marks, size_t marks_len,
 /* Lent code. It is decoded by the opcodes, types and layout that are lent with it. Its pool is that of object number `object`, of any kind, of
    the store objects, slots and payload, where `lent` is not 0; with 0 it has none, and the store and `object` are not looked at. */
 
-/* The walks through lent code. The answer and the marks are told as by jscd_walk. */
+/* The walks through lent code. The answer and the marks are told as by jscd_walk. Code of no bytes is JSCD_DONE; number 19 is not given. */
 uint8_t jscd_walk_code(uint8_t *marks, size_t marks_len,
                        const uint8_t *code, size_t code_len,
                        const uint8_t *opcodes, size_t opcodes_len,

@@ -111,7 +111,7 @@ pub enum Walked {
 }
 
 /// The walks through a BytecodeArray's code, with marks for the offsets that they come by: at least as many as the code has bytes. After a
-/// refusal `marks` is as it was.
+/// refusal `marks` is as it was. Empty code is closed, without a mark; 19 is a length above 0 whose code no run holds.
 pub fn walk(files: &Files, object: usize, marks: &mut [u8]) -> Result<Walked, Refusal> {
     let (mut steps, mut place) = (0, 0);
     let f = files;
@@ -168,7 +168,7 @@ impl Lent<'_> {
     }
 }
 
-/// The walks through lent code, with marks as for `walk`.
+/// The walks through lent code, with marks as for `walk`. Code of no bytes is closed.
 pub fn walk_code(lent: &Lent, code: &[u8], marks: &mut [u8]) -> Result<Walked, Refusal> {
     let (mut steps, mut place) = (0, 0);
     let f = lent;

@@ -232,8 +232,7 @@ fn a_refusal_leaves_the_marks() {
     assert_eq!(walk(&sample.lent(), 0, &mut marks), Ok(Walked::Closed));
 }
 
-/// Document 01's rows on lent code: P10 `05 01`, P11 `00 05 03 00 02`, P12 `06 02 0b`, `06 03 0b`; empty code, marks too few, an object that
-/// is not there. What is behind the code's marks is as it was, and all of them after a refusal.
+/// Document 01's rows on lent code: P10 `05 01`, P11 `00 05 03 00 02`, P12 `06 02 0b`, `06 03 0b`; marks too few, an object that is not there. What is behind the code's marks is as it was, and all of them after a refusal.
 #[test]
 fn walks_of_lent_code() {
     let sample = Sample::new();
@@ -249,11 +248,67 @@ fn walks_of_lent_code() {
     assert_eq!(walk_code(&sample.alone(), &[0x06, 0x03, 0x0b], &mut marks), leaves(1, 0));
     let kept = marks;
     let refused = |number| Err(Refusal { number, place: 0 });
-    assert_eq!(walk_code(&sample.alone(), &[], &mut marks), refused(19));
     assert_eq!(walk_code(&sample.alone(), &code, &mut marks[..4]), refused(18));
     let pool = Pool::new();
     assert_eq!(walk_code(&pool.lent(&sample, 2), &code, &mut marks), refused(8));
     assert_eq!(marks, kept);
+}
+
+/// The sample with this length field, in a run of so many bytes.
+fn with_length(length: i32, run: u8) -> Sample {
+    let mut sample = Sample::new();
+    sample.files[7][4..8].copy_from_slice(&length.to_le_bytes());
+    sample.files[6][12] = run;
+    sample
+}
+
+/// Wish 4. An object's code is empty where its length field is 0, or is not found: the run ends within it, or there is no slot. It is closed
+/// with any marks, and all of them are as they were.
+#[test]
+fn empty_code_of_an_object() {
+    let mut no_slot = Sample::new();
+    no_slot.files[5][8] = 0;
+    for sample in [with_length(0, 51), with_length(0, 8), with_length(5, 7), no_slot] {
+        let mut marks = [7; 6];
+        for room in [0, 1, 6] {
+            assert_eq!(walk(&sample.lent(), 0, &mut marks[..room]), Ok(Walked::Closed));
+        }
+        assert_eq!(marks, [7; 6]);
+    }
+}
+
+/// Wish 4. A positive length whose code no run holds is 19, before 18, and behind 8 and 9.
+#[test]
+fn a_length_that_no_run_holds() {
+    let refused = |number| Err(Refusal { number, place: 0 });
+    for (length, run) in [(1, 8), (5, 50), (6, 51), (65_536, 51)] {
+        let sample = with_length(length, run);
+        let mut marks = [7; 6];
+        for room in [0, 1, 6] {
+            assert_eq!(walk(&sample.lent(), 0, &mut marks[..room]), refused(19));
+        }
+        assert_eq!(walk(&sample.lent(), 1, &mut marks), refused(8));
+        assert_eq!(marks, [7; 6]);
+    }
+    assert_eq!(walk(&with_length(65_537, 51).lent(), 0, &mut []), refused(9));
+    assert_eq!(walk(&with_length(-1, 51).lent(), 0, &mut []), refused(9));
+}
+
+/// Wish 4. Lent code of no bytes is closed, with an object's pool and without one; the table and the object are looked at all the same.
+#[test]
+fn empty_lent_code() {
+    let (sample, pool) = (Sample::new(), Pool::new());
+    let mut marks = [7; 6];
+    for lent in [sample.alone(), pool.lent(&sample, 0), pool.lent(&sample, 1)] {
+        for room in [0, 1, 6] {
+            assert_eq!(walk_code(&lent, &[], &mut marks[..room]), Ok(Walked::Closed));
+        }
+    }
+    let refused = |number| Err(Refusal { number, place: 0 });
+    assert_eq!(walk_code(&pool.lent(&sample, 2), &[], &mut marks), refused(8));
+    let none = Lent { opcodes: &[], ..sample.alone() };
+    assert_eq!(walk_code(&none, &[], &mut marks), refused(1));
+    assert_eq!(marks, [7; 6]);
 }
 
 /// Document 01's row `09 00 02 05 0b`: with the pool that the object has, `{ 5: @4 }` and closed; without an object no table.

@@ -30,7 +30,8 @@ fn put(folder: &Path, name: &str, code: &[u8]) {
     }
 }
 
-/// Document 01's `03` (14 at 1), P10 (leaves, 1 step from 0), P12 (closed), its sample's code, and a folder with no files.
+/// Document 01's `03` (14 at 1), P10 (leaves, 1 step from 0), P12 (closed), its sample's code, a placeholder, whose code is empty (Wish 4: closed), and a
+/// folder with no files.
 #[test]
 fn lines_and_listings() {
     let folder = Path::new(env!("CARGO_TARGET_TMPDIR")).join("batch");
@@ -39,6 +40,7 @@ fn lines_and_listings() {
     put(&from, "cut", &[0x03]);
     put(&from, "jumps", &[0x05, 0x01]);
     put(&from, "left or right", &[0x06, 0x02, 0x0b]);
+    put(&from, "placeholder", &[]);
     put(&from, "sample", &[0x03, 0x05, 0x04, 0xfa, 0x0b]);
     std::fs::create_dir_all(from.join("missing")).unwrap();
     for jobs in ["1", "3"] {
@@ -52,13 +54,16 @@ fn lines_and_listings() {
         assert_eq!(lines[1], "jumps leaves steps 1 from 0");
         assert_eq!(lines[2], "left or right closed");
         assert!(lines[3].starts_with("missing unreadable: "), "{}", lines[3]);
-        assert_eq!(lines[4], "sample closed");
-        assert_eq!(lines.len(), 5);
+        assert_eq!(lines[4], "placeholder closed");
+        assert_eq!(lines[5], "sample closed");
+        assert_eq!(lines.len(), 6);
         assert!(!err.contains("jscd_walk is not built"), "{err}");
-        assert!(err.contains("5 functions: "), "{err}");
+        assert!(err.contains("6 functions: 3 closed, 1 leave, 1 refused, 1 unreadable"), "{err}");
         assert_eq!(run.status.code(), Some(1));
         let listing = std::fs::read_to_string(to.join("sample.txt")).unwrap();
         assert_eq!(listing, sample::LISTING);
+        let listing = std::fs::read_to_string(to.join("placeholder.txt")).unwrap();
+        assert!(listing.starts_with("Bytecode length: 0\n") && listing.lines().count() == 6);
         assert!(!to.join("cut.txt").exists());
     }
 }

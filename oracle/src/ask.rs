@@ -514,9 +514,7 @@ fn write_one(lent: &Lent) -> Result<Answer, Refusal> {
 /// The walk over the code of object 0.
 fn walk(lent: &Lent) -> Result<Answer, Refusal> {
     let function = checks::function(lent.files, 0)?;
-    checks::code_length(lent.port.code_length(function))?;
-    let code = lent.port.code(function);
-    walks::check(&lent.port, function, code, lent.call.args[0]).map(Answer::Walked)
+    walks::check_object(&lent.port, function, lent.call.args[0]).map(Answer::Walked)
 }
 
 /// The walk over lent code.

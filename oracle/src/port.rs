@@ -119,15 +119,20 @@ impl<'a> Port<'a> {
         (part.as_ptr() as usize - self.cache.payload().as_ptr() as usize) as u64
     }
 
-    /// The code length field of a function, as `render_sfi` reads it.
+    /// The code length of a function, as `render_sfi` reads it: 0 where there is none.
     pub fn code_length(&self, function: usize) -> i64 {
+        self.length_field(function).unwrap_or(0)
+    }
+
+    /// Its code length field, where that is found.
+    pub fn length_field(&self, function: usize) -> Option<i64> {
         let ts = self.table.tagged_size as usize;
         let layout = self.table.bytecode_array.as_ref().unwrap();
         let at = layout
             .off("length")
             .map(|o| self.cache.bca_rt_off(&self.table, ts, function, o))
             .unwrap_or(ts);
-        self.cache.raw_at(function, at, ts).and_then(ser::decode_smi_bytes).unwrap_or(0)
+        self.cache.raw_at(function, at, ts).and_then(ser::decode_smi_bytes)
     }
 
     /// The code of a function, as `render_sfi` reads it; its length field is known to be good.

@@ -25,7 +25,7 @@ const SWITCH: &[u8] = &[0x09, 0x00, 0x02, 0x05, 0x0b];
 const BOTH_NAMES: &[u8] = &[0x0a, 0x01, 0x00, 0xfa, 0x01, 0x0c, 0x00, 0xfa, 0x01, 0x0b];
 
 /// What file_cases is lent as arguments, eight files a set: the usual names, but for these.
-const SETS: [&[(usize, &str)]; 13] = [
+const SETS: [&[(usize, &str)]; 15] = [
     &[],
     &[(PAYLOAD, "full.bin")],
     &[(PAYLOAD, "long.bin")],
@@ -39,10 +39,12 @@ const SETS: [&[(usize, &str)]; 13] = [
     &[(OBJECTS, "switch_objects.bin"), (SLOTS, "switch_slots.bin"), (PAYLOAD, "switch.bin")],
     &[(OPCODES, "prefix_3.bin")],
     &[(OBJECTS, "switch_objects.bin"), (SLOTS, "kind_6.bin"), (PAYLOAD, "switch.bin")],
+    &[(PAYLOAD, "empty.bin")],
+    &[(PAYLOAD, "not_held.bin")],
 ];
 
 /// The cases of file_cases: title, program, and the set.
-const CASES: [(&str, usize, usize); 24] = [
+const CASES: [(&str, usize, usize); 28] = [
     ("list: the usual names, not as arguments", LISTING, 0),
     ("list: the usual names", LISTING, 0),
     ("list: payload of 65,536 bytes", LISTING, 1),
@@ -53,6 +55,8 @@ const CASES: [(&str, usize, usize); 24] = [
     ("list: a switch", LISTING, 10),
     ("list: opcode 4 with prefix byte 3", LISTING, 11),
     ("list: slot 4 of kind 6", LISTING, 12),
+    ("list: empty code", LISTING, 13),
+    ("list: length 11, in no run", LISTING, 14),
     ("walk: the usual names, not as arguments", WALK, 0),
     ("walk: the usual names", WALK, 0),
     ("walk: payload of 65,536 bytes", WALK, 1),
@@ -67,6 +71,8 @@ const CASES: [(&str, usize, usize); 24] = [
     ("walk: a switch", WALK, 10),
     ("walk: opcode 4 with prefix byte 3", WALK, 11),
     ("walk: slot 4 of kind 6", WALK, 12),
+    ("walk: empty code", WALK, 13),
+    ("walk: length 11, in no run", WALK, 14),
 ];
 
 /// The data folders, arguments and outputs of the three programs.
@@ -131,6 +137,9 @@ fn case_files() -> BTreeMap<&'static str, Vec<u8>> {
     full.resize(PROGRAM_FILE, 0);
     let mut long = full.clone();
     long.push(0);
+    // One byte more than the run holds behind the header.
+    let mut not_held = payload(BOTH_NAMES);
+    not_held[4] = ROOM as u8 + 1;
     let [.., objects, slots, switch] = sample::function(SWITCH, 8, &[Some(4), None]).body;
     let mut kind_6 = slots.clone();
     kind_6[4 * 24 + 4] = 6;
@@ -147,6 +156,8 @@ fn case_files() -> BTreeMap<&'static str, Vec<u8>> {
         ("switch.bin", switch),
         ("prefix_3.bin", prefix_3),
         ("kind_6.bin", kind_6),
+        ("empty.bin", payload(&[])),
+        ("not_held.bin", not_held),
     ]);
     out
 }
@@ -200,6 +211,21 @@ mod tests {
         let crates = Path::new(env!("CARGO_MANIFEST_DIR")).join("../crates");
         for (path, body) in record().unwrap() {
             assert!(std::fs::read(crates.join(&path)).unwrap() == body, "{path}");
+        }
+    }
+
+    /// Wish 4: empty code is closed, and a length that no run holds is 19; both list their header alone.
+    #[test]
+    fn empty_code_shows() {
+        let output = String::from_utf8(record().unwrap()["file_cases/stdout"].clone()).unwrap();
+        assert!(output.contains("\nwalk: empty code\nclosed\n"));
+        assert!(output.contains("\nwalk: length 11, in no run\nrefused 19 at 0\n"));
+        for (title, length) in [("empty code", 0), ("length 11, in no run", 11)] {
+            let from = output.find(&format!("list: {title}\n")).unwrap();
+            let lines: Vec<&str> = output[from..].lines().take(8).collect();
+            assert_eq!(lines[1], format!("Bytecode length: {length}"));
+            assert_eq!(lines[6], "Bytecode Age: 0");
+            assert!(["list: ", "walk: "].iter().any(|title| lines[7].starts_with(title)));
         }
     }
 

@@ -42,7 +42,8 @@ fn refused(lent: &[u8], call: &Call, number: u64, marks: u64) -> Vec<String> {
     let short = marks < lent.len() as u64 && call.function == WALK_CODE;
     match number {
         10..=16 if short => out.push(format!("refused {number}, the marks too short as well")),
-        18 if marks == 0 => out.push("refused 18, no mark".into()),
+        18 | 19 if marks == 0 => out.push(format!("refused {number}, no mark")),
+        19 if marks >= 65_536 => out.push("refused 19, as many marks as there may be".into()),
         18 if marks + 1 == lent.len() as u64 => out.push("refused 18, one mark too few".into()),
         _ => {}
     }
@@ -66,7 +67,15 @@ fn on_walk(
     let entries = |ins: &Instr| switches::entries(&port, function, ins);
     let entries = listed.iter().map(|ins| entries(ins).map(|e| e.len())).collect();
     let asked = Asked { listed, steps, entries, code, walked };
+    let empty = code.is_empty();
+    let length = if call.function == WALK { port.length_field(0) } else { None };
     let mut out = held(&[
+        ("empty code, no mark", empty && marks == 0),
+        ("empty code, some marks", empty && marks > 0),
+        ("empty code, its length is 0", empty && length.is_some()),
+        ("empty code, no length is found", empty && call.function == WALK && length.is_none()),
+        ("empty code, no object", empty && object == NO_OBJECT),
+        ("empty code, an object with a pool", empty && store != 0 && port.pool(function).is_some()),
         ("as many marks as bytes", marks == code.len() as u64),
         ("more marks than bytes", marks > code.len() as u64),
         ("no object", object == NO_OBJECT),
@@ -92,9 +101,11 @@ impl Asked<'_> {
 
     /// Steps to each offset by a queue, and the first met that leaves; steps in their order or not.
     fn queue(&self, backward: bool) -> (BTreeMap<usize, usize>, Option<usize>) {
-        let mut distances = BTreeMap::from([(0, 0)]);
+        // In empty code there is nowhere to stand.
+        let start = (!self.code.is_empty()).then_some(0);
+        let mut distances: BTreeMap<usize, usize> = start.map(|at| (at, 0)).into_iter().collect();
         let mut first = None;
-        let mut queue = VecDeque::from([0]);
+        let mut queue = VecDeque::from_iter(start);
         while let Some(at) = queue.pop_front() {
             if first.is_none() && self.leaving(at) {
                 first = Some(at);
@@ -255,7 +266,9 @@ impl Asked<'_> {
 }
 
 /// Classes that must have a case, of walk_code.
-const WANTED: [&str; 37] = [
+const WANTED: [&str; 39] = [
+    "empty code, no object",
+    "empty code, an object with a pool",
     "as many marks as bytes",
     "more marks than bytes",
     "no object",
@@ -295,8 +308,23 @@ const WANTED: [&str; 37] = [
     "refused 18, one mark too few",
 ];
 
-/// Refusals of both functions; 9 is that of an object's code, 10 that of lent code.
-const REFUSALS: [u64; 16] = [1, 2, 3, 4, 5, 6, 7, 8, 11, 12, 13, 14, 15, 16, 18, 19];
+/// Classes that must have a case, of walk.
+const OF_OBJECTS: [&str; 11] = [
+    "closed",
+    "leaves",
+    "an object with a pool",
+    "an object without a pool",
+    "more marks than bytes",
+    "tagged size 4",
+    "empty code, its length is 0",
+    "empty code, no length is found",
+    "empty code, an object with a pool",
+    "refused 19, no mark",
+    "refused 19, as many marks as there may be",
+];
+
+/// Refusals of both functions; 9 and 19 are those of an object's code, 10 that of lent code.
+const REFUSALS: [u64; 15] = [1, 2, 3, 4, 5, 6, 7, 8, 11, 12, 13, 14, 15, 16, 18];
 
 pub fn wanted() -> Vec<String> {
     let mut out: Vec<String> = WANTED.iter().map(|class| class.to_string()).collect();
@@ -319,15 +347,10 @@ pub fn wanted() -> Vec<String> {
     out.push("an entry to a prefix byte".into());
     out.push("an entry to an opcode byte behind a prefix".into());
     let mut out: Vec<String> = out.iter().map(|class| format!("walk_code: {class}")).collect();
-    out.extend(REFUSALS.iter().chain(&[9]).map(|n| format!("walk: refused {n}")));
-    let of_objects = [
-        "closed",
-        "leaves",
-        "an object with a pool",
-        "an object without a pool",
-        "more marks than bytes",
-        "tagged size 4",
-    ];
-    out.extend(of_objects.iter().map(|class| format!("walk: {class}")));
+    out.extend(REFUSALS.iter().chain(&[9, 19]).map(|n| format!("walk: refused {n}")));
+    out.extend(OF_OBJECTS.iter().map(|class| format!("walk: {class}")));
+    for marks in ["no mark", "some marks"] {
+        out.extend(["walk", "walk_code"].map(|name| format!("{name}: empty code, {marks}")));
+    }
     out
 }

@@ -76,6 +76,12 @@ pub fn set_store(files: &mut Files, head: &[u8], code: &[u8], pool: &[Element]) 
     files.body[PAYLOAD] = payload;
 }
 
+/// Sets the length field of such a store, whatever its code is.
+pub fn set_length(files: &mut Files, length: i32) {
+    let ts = files.layout(0) as usize;
+    files.body[PAYLOAD][..ts].copy_from_slice(&small(ts, length));
+}
+
 /// A small integer of the tagged size.
 fn small(ts: usize, value: i32) -> Vec<u8> {
     match ts {

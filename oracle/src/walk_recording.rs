@@ -11,7 +11,7 @@ use crate::records::*;
 use crate::sample;
 use crate::vectors::Writer;
 use crate::walk_classes::classes;
-use crate::walk_codes::{self, set_store, Element};
+use crate::walk_codes::{self, set_length, set_store, Element};
 
 /// How many files there are, the first for what is not random.
 pub const PARTS: usize = 5;
@@ -51,6 +51,7 @@ pub fn record(seed: u64) -> Result<WalkRecording, String> {
     out.long_lines()?;
     out.prefixed_switches()?;
     out.large_prefixed_switch()?;
+    out.empty_codes()?;
     out.next_file();
     let pools = codes::pools(&mut r);
     for _ in 1..PARTS {
@@ -140,7 +141,7 @@ impl WalkRecording {
         Ok(())
     }
 
-    /// Objects that are not there, of another kind, or whose code length is bad; and empty code.
+    /// Objects that are not there, of another kind, or whose code length is bad; and empty lent code.
     fn objects(&mut self) -> Result<(), String> {
         let sample = sample::sample();
         for kind in [0, 2] {
@@ -157,7 +158,7 @@ impl WalkRecording {
         self.set(&sample::table(), &[0x0b]);
         self.call(WALK, &[5])?;
         self.walk_code(0)?;
-        // The length field; 6 is found in no run, and is empty code.
+        // The length field; 0 is empty code, and no run holds 6 bytes of code.
         for length in [-1, i32::MIN, 65_537, i32::MAX, 0, 1, 2, 3, 4, 5, 6, 65_536] {
             let mut files = sample.clone();
             files.body[PAYLOAD][4..8].copy_from_slice(&i32::to_le_bytes(length));
@@ -341,6 +342,85 @@ impl WalkRecording {
             }
         }
         Ok(())
+    }
+
+    /// Wish 4: code that is empty, of an object and lent, and lengths that no run holds; then table and
+    /// object faults of empty code.
+    fn empty_codes(&mut self) -> Result<(), String> {
+        for ts in [8, 4] {
+            let mut files = sample::table();
+            files.body[LAYOUT][0] = ts;
+            for pool in [&[][..], &[Element::Number(5), Element::Reference]] {
+                self.empty_objects(&files, pool)?;
+                self.not_held(&files, pool)?;
+            }
+        }
+        self.cut_run()?;
+        self.walk_code(1)?;
+        let mut files = self.files.clone();
+        files.body[LAYOUT][0] = 5;
+        self.set(&files, &[]);
+        self.call(WALK, &[0])?;
+        self.walk_code(NO_OBJECT)
+    }
+
+    /// Length 0, with a run up to the code's place and one that ends before it; no length found, since it
+    /// is no small integer, no run has it, or there is no slot; and lent code of no bytes.
+    fn empty_objects(&mut self, table: &Files, pool: &[Element]) -> Result<(), String> {
+        let mut files = table.clone();
+        set_store(&mut files, &[0; 13], &[], pool);
+        self.on_empty(&files)?;
+        set_store(&mut files, &[0; 14], &[], pool);
+        self.on_empty(&files)?;
+        for object in [0, NO_OBJECT] {
+            for marks in [0, 1, MOST_MARKS] {
+                self.call(WALK_CODE, &[object, marks])?;
+            }
+        }
+        set_store(&mut files, &[0; 14], &[0x02, 0x0b], pool);
+        files.body[PAYLOAD][0] |= 1;
+        self.on_empty(&files)?;
+        let reference = Slot { index: 1, kind: 3, ..Slot::default() };
+        files.body[SLOTS][24..48].copy_from_slice(&reference.bytes());
+        self.on_empty(&files)?;
+        files.body[OBJECTS][8] = 0;
+        self.on_empty(&files)
+    }
+
+    /// The walk over object 0, of which the code is empty.
+    fn on_empty(&mut self, files: &Files) -> Result<(), String> {
+        self.set(files, &[]);
+        [0, 1, MOST_MARKS].iter().try_for_each(|marks| self.call(WALK, &[*marks]))
+    }
+
+    /// Positive lengths of which no run holds so many bytes, and no run at all behind the header.
+    fn not_held(&mut self, table: &Files, pool: &[Element]) -> Result<(), String> {
+        let mut files = table.clone();
+        for (held, length) in [(0, 1), (1, 2), (2, 3), (2, 65_536)] {
+            set_store(&mut files, &[0; 14], &[0x02, 0x0b][..held], pool);
+            set_length(&mut files, length);
+            self.on_length(&files, length as u64)?;
+        }
+        let reference = Slot { index: 5, kind: 3, ..Slot::default() };
+        files.body[SLOTS][5 * 24..6 * 24].copy_from_slice(&reference.bytes());
+        set_length(&mut files, 2);
+        self.on_length(&files, 2)
+    }
+
+    /// The sample with its run cut in two, within the code: both together hold it, neither does alone.
+    fn cut_run(&mut self) -> Result<(), String> {
+        let mut files = sample::sample();
+        let run =
+            |index, number, length| Slot { index, kind: 4, number, length, ..Slot::default() };
+        files.body[SLOTS] = [run(1, 0, 48), run(7, 48, 3)].iter().flat_map(Slot::bytes).collect();
+        files.body[OBJECTS][8] = 2;
+        self.on_length(&files, 5)
+    }
+
+    /// The walk over object 0 with marks too few, just enough, and more.
+    fn on_length(&mut self, files: &Files, length: u64) -> Result<(), String> {
+        self.set(files, &[]);
+        [0, length - 1, length, MOST_MARKS].iter().try_for_each(|marks| self.call(WALK, &[*marks]))
     }
 
     /// Codes by a table.

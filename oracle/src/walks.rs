@@ -1,6 +1,6 @@
-//! The walk check, written from document 01's section "Walks". The Rust has none: it decodes and
-//! gives jump targets and switch entries (`switches` those under a prefix), and what the steps of an
-//! instruction are is said here.
+//! The walk check, written from document 01's section "Walks" and document 02's Wish 4 (empty code). The
+//! Rust has none: it decodes and gives jump targets and switch entries (`switches` those under a
+//! prefix), and what the steps of an instruction are is said here.
 //!
 //! The sets of offsets reached in exactly 0, 1, 2, .. steps are worked out one after the other, as the
 //! section defines them.
@@ -73,13 +73,22 @@ pub const MAYBE: [&str; 26] = [
 
 pub const SWITCHES: [&str; 2] = ["SwitchOnSmiNoFeedback", "SwitchOnGeneratorState"];
 
+/// The walk over the code of an object, a BytecodeArray, and the refusals from 9 on. By Wish 4 this is
+/// the one place that gives 19: "exactly where it takes its code from an object whose length is positive
+/// and no run holds that code". A length that is not found counts as 0.
+pub fn check_object(port: &Port, function: usize, marks: u64) -> Result<Walked, Refusal> {
+    let length = port.code_length(function);
+    checks::code_length(length)?;
+    match port.code_part(function) {
+        None if length > 0 => checks::refuse(19, 0),
+        held => check(port, function, held.unwrap_or_default(), marks),
+    }
+}
+
 /// The walk over code that the table's checks have passed, and the refusals from 10 on: `function` is
 /// the object whose pool is meant, `marks` the length of the mark buffer.
 pub fn check(port: &Port, function: usize, code: &[u8], marks: u64) -> Result<Walked, Refusal> {
     let listed = listed(port, function, code)?;
-    if code.is_empty() {
-        return checks::refuse(19, 0);
-    }
     if marks < code.len() as u64 {
         return checks::refuse(18, 0);
     }
@@ -121,8 +130,9 @@ pub fn leaves(steps: &Steps, step: Step) -> bool {
 }
 
 fn walk(steps: &Steps, length: usize) -> Walked {
-    // `now` is what is reached in exactly `taken` steps, `reached` what is in at most that many.
-    let mut now = BTreeSet::from([0]);
+    // `now` is what is reached in exactly `taken` steps, `reached` what is in at most that many. Wish 4:
+    // in empty code no instruction stands at 0, and no walk can take a step.
+    let mut now: BTreeSet<usize> = [0].into_iter().filter(|at| steps.contains_key(at)).collect();
     let mut reached = now.clone();
     let mut taken = 0;
     let outcome = loop {
@@ -186,7 +196,7 @@ mod tests {
         assert_eq!(on(&[0x0a, 0x05, 0x00, 0xfa]), "refused 15 at 4");
         assert_eq!(on(&[0x07, 0x03, 0x00]), "leaves steps 1 from 0");
         assert_eq!(on(&[0x03]), "refused 14 at 1");
-        assert_eq!(on(&[]), "refused 19 at 0");
+        assert_eq!(on(&[]), "closed");
         assert_eq!(on(&[0x03, 0x05, 0x04, 0xfa, 0x0b]), "closed");
     }
 
@@ -215,7 +225,8 @@ mod tests {
         assert_eq!(walk(&files, &[0x02], 2, 0), "refused 8 at 0");
         assert_eq!(walk(&files, &[0x02; 65_537], 0, 0), "refused 10 at 0");
         assert_eq!(walk(&files, &[0x02, 0x03], 0, 0), "refused 14 at 2");
-        assert_eq!(walk(&files, &[], 0, 0), "refused 19 at 0");
+        assert_eq!(walk(&files, &[], 2, 0), "refused 8 at 0");
+        assert_eq!(walk(&files, &[], 0, 0), "closed");
         assert_eq!(walk(&files, &[0x0b, 0x02], 0, 1), "refused 18 at 0");
         assert_eq!(walk(&files, &[0x0b, 0x02], 0, 2), "closed");
         // The count as an Imm: -1 is refused where there is a pool, before the buffer is looked at.
@@ -226,6 +237,44 @@ mod tests {
         assert_eq!(walk(&files, &code, 0, 0), "refused 16 at 1");
         assert_eq!(walk(&files, &code, NO_OBJECT, 0), "refused 18 at 0");
         assert_eq!(walk(&files, &code, NO_OBJECT, 5), "closed");
+    }
+
+    /// Wish 4: what is said of the sample's object with this length field, by the slots that it has.
+    fn of_length(length: i32, slots: &[Slot], marks: u64) -> String {
+        let mut files = sample::sample();
+        files.body[PAYLOAD][4..8].copy_from_slice(&length.to_le_bytes());
+        files.body[SLOTS] = slots.iter().flat_map(Slot::bytes).collect();
+        files.body[OBJECTS][8] = slots.len() as u8;
+        match ask(&files, &[], &Call::new(WALK, &[marks])).unwrap() {
+            Answer::Walked(walked) => format!("{:?} {:?}", walked.outcome, walked.marks),
+            other => other.to_string(),
+        }
+    }
+
+    #[test]
+    fn empty_code() {
+        let run =
+            |index, number, length| Slot { index, kind: 4, number, length, ..Slot::default() };
+        let whole = [run(1, 0, 51)];
+        let reference = [Slot { index: 1, kind: 3, ..Slot::default() }];
+        for marks in [0, 1, 5, 65_536] {
+            assert_eq!(of_length(0, &whole, marks), "Closed []");
+            // No run has the length field, or a run that ends within it.
+            assert_eq!(of_length(5, &[], marks), "Closed []");
+            assert_eq!(of_length(5, &reference, marks), "Closed []");
+            assert_eq!(of_length(5, &[run(1, 0, 7)], marks), "Closed []");
+            // The length is found, and no run holds so many bytes behind the header.
+            for length in [6, 65_536] {
+                assert_eq!(of_length(length, &whole, marks), "refused 19 at 0");
+            }
+            assert_eq!(of_length(5, &[run(1, 0, 50)], marks), "refused 19 at 0");
+            assert_eq!(of_length(1, &[run(1, 0, 8)], marks), "refused 19 at 0");
+            // Two runs hold it together, and none alone.
+            let parts = [run(1, 0, 48), run(7, 48, 3)];
+            assert_eq!(of_length(5, &parts, marks), "refused 19 at 0");
+            assert_eq!(of_length(65_537, &[run(1, 0, 8)], marks), "refused 9 at 0");
+        }
+        assert_eq!(of_length(5, &whole, 4), "refused 18 at 0");
     }
 
     /// The Rust has a target for each name of the two lists and for no other of V8's jumps.
@@ -251,7 +300,8 @@ mod tests {
 
     /// The same by distances, lowered until nothing changes.
     fn by_distances(steps: &Steps, length: usize) -> Walked {
-        let mut distance: BTreeMap<usize, usize> = BTreeMap::from([(0, 0)]);
+        let starts = steps.keys().filter(|at| **at == 0);
+        let mut distance: BTreeMap<usize, usize> = starts.map(|at| (*at, 0)).collect();
         loop {
             let before = distance.clone();
             for (at, d) in &before {
@@ -281,7 +331,7 @@ mod tests {
         let mut r = Random::new(1);
         let mut counts = [0, 0];
         for _ in 0..60_000 {
-            let length = 1 + r.below(14);
+            let length = r.below(15);
             let code: Vec<u8> = (0..length).map(|_| r.below(12) as u8).collect();
             let Ok(listed) = listed(&port, 0, &code) else {
                 continue;

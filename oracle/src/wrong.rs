@@ -233,6 +233,9 @@ fn wrongs(right: &Chosen) -> Result<Vec<Vec<u8>>, String> {
             if said.len() > 8 {
                 out.push(said[..said.len() - 8].to_vec());
             }
+            if said == refused_0(19) {
+                out.push(closed_empty());
+            }
             if said[0] == 1 && function == JUMP_TABLE {
                 out.extend(one_entry_fewer(said));
             }
@@ -273,7 +276,18 @@ fn one_entry_fewer(said: &[u8]) -> Vec<Vec<u8>> {
     [&entries[16..], &entries[..entries.len() - 16]].map(|kept| [&head[..], kept].concat()).to_vec()
 }
 
-/// A number, a mark, a bit behind the marks, or eight marks missing.
+/// A refusal at place 0.
+fn refused_0(number: u64) -> Vec<u8> {
+    [&[2][..], &number.to_le_bytes(), &[0; 8]].concat()
+}
+
+/// Closed, without a mark.
+fn closed_empty() -> Vec<u8> {
+    vec![1, 0, 0, 0, 0, 0, 0, 0, 0]
+}
+
+/// A number, a mark, a bit behind the marks, or eight marks missing; of empty code a mark where there is none, or a
+/// refusal, 19 as before Wish 4, or 18.
 fn wrong_walks(right: &Chosen) -> Result<Vec<Vec<u8>>, String> {
     let said = &right.said[..];
     let Answer::Walked(walked) = ask(&right.files, &right.code, &right.call)? else {
@@ -282,6 +296,10 @@ fn wrong_walks(right: &Chosen) -> Result<Vec<Vec<u8>>, String> {
     let numbers = if number(said, 0) == 0 { 1 } else { 3 };
     let mut out: Vec<Vec<u8>> = (0..numbers).flat_map(|k| wrong_number(said, k)).collect();
     let count = walked.marks.len();
+    if count == 0 {
+        out.extend([[said, &[1]].concat(), refused_0(19), refused_0(18)]);
+        return Ok(out);
+    }
     let bits = 1 + 8 * numbers;
     let mut marks = vec![0, count / 2, count - 1];
     // Bits behind the last mark are 0.

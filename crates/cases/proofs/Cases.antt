@@ -1,6 +1,6 @@
 -- 01's P rows, by computing. Assumes nothing.
 use mathlib.Core.Path.{_≡_, refl}
-use mathlib.Core.List.{map, flatMap}
+use mathlib.Core.List.{List, [], _∷_, map, flatMap}
 use Rattle.laws.specs.Scan.{firstFrom, within}
 use Rattle.words.specs.Le.{leAt}
 use Rattle.words.specs.Signed.{modulo, wrap32, signed}
@@ -25,7 +25,10 @@ use Rattle.steps.specs.Steps.{entriesSteps, instrSteps, stepsAt, walkGraph}
 use Rattle.jumps.specs.Jumps.{targetOf, targetCall}
 use Rattle.walk.specs.Walk.{walkSource, walkLent}
 use Rattle.sample.specs.Sample.{padded, opcode, typed, opcodes, types, four, fours, layout}
+use Rattle.walk.specs.declared.Walked.the-variants as walked-as
 use Rattle.cases.specs.Rows.{told, asked, rows}
+use Rattle.cases.specs.Rows.Asked.{walks}
+use Rattle.cases.specs.Rows.Told.{walked}
 
 -- P1 to P12
 pub cases : map told asked ≡ rows
@@ -35,3 +38,12 @@ unfolding told asked rows opcodes opcode typed types padded four fours layout ch
     flowNames flows flowNumber flowBy poolElem operandOf indexOf numberOf distanceBy jumpTarget jumpTable tableBy sizedBy walkLent walkSource listFrom
     switchCheck walkGraph stepsAt instrSteps entriesSteps finding firstExit level after exits isStart markList marked reached bits
 cases = refl
+
+-- 02, Wish 4: empty code is closed, and no mark is written, whatever the mark buffer
+pub empty-cases : told (walks [] 0) ∷ told (walks [] 2) ∷ [] ≡ walked (walked-as.Closed, []) ∷ walked (walked-as.Closed, 7 ∷ 7 ∷ []) ∷ []
+unfolding told opcodes opcode typed types padded four fours layout checkTable wholeRecords within firstFrom nameOk opcodeOk sizeFits sizeGood nameFits isNamed
+    typeNames ranges rangeOf layoutOf decodeOne decodeAt headAt firstMarked readParts partsFrom width isList kinds kindOf ofKind interpret leAt modulo wrap32
+    signed lineBy operandsBy hexByte hexDigit flatMap nameAt decimal lastDigits runtimeName paramName regName listName operandText instrName targetCall targetOf
+    flowNames flows flowNumber flowBy poolElem operandOf indexOf numberOf distanceBy jumpTarget jumpTable tableBy sizedBy walkLent walkSource listFrom
+    switchCheck walkGraph stepsAt instrSteps entriesSteps finding firstExit level after exits isStart markList marked reached bits
+empty-cases = refl

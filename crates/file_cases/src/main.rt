@@ -1,5 +1,5 @@
-// Both programs on files at their limit, beyond it, missing, or no files at all, on names of both kinds, on codes of document 01 and on refused
-// records. The file `args` has eight names for each set of files; where a file cannot be read nothing is printed, and so for a wrong number of arguments.
+// Both programs on files at their limit, beyond it, missing, or no files at all, on names of both kinds, on codes of document 01, on empty code and on
+// refused records. The file `args` has eight names for each set of files; where a file cannot be read nothing is printed, and so for a wrong number of arguments.
 use files::Program;
 use libc::STDOUT_FILENO;
 
@@ -7,7 +7,7 @@ fn main() {
     listings();
     limits();
     codes();
-    io::write_all(STDOUT_FILENO, b"list: 104 arguments\n");
+    io::write_all(STDOUT_FILENO, b"list: 120 arguments\n");
     files::run(Program::List);
 }
 
@@ -22,6 +22,8 @@ fn listings() {
     list(b"list: a switch\n", 81);
     list(b"list: opcode 4 with prefix byte 3\n", 89);
     list(b"list: slot 4 of kind 6\n", 97);
+    list(b"list: empty code\n", 105);
+    list(b"list: length 11, in no run\n", 113);
 }
 
 fn limits() {
@@ -43,6 +45,8 @@ fn codes() {
     walk(b"walk: a switch\n", 81);
     walk(b"walk: opcode 4 with prefix byte 3\n", 89);
     walk(b"walk: slot 4 of kind 6\n", 97);
+    walk(b"walk: empty code\n", 105);
+    walk(b"walk: length 11, in no run\n", 113);
 }
 
 // The listing of the files from argument first on.

@@ -3,7 +3,7 @@ use Prim.Native.Nat.{ℕ, zero, suc, _<_, _≤_}
 use mathlib.Core.Path.{_≡_, refl, sym, ap, subst, _∙_}
 use mathlib.Core.List.{List, _++_}
 use native.Mathlib.Omega.{arith}
-use borrow.Author.Tests.{lt-ltb, le-ltb, le-leb, lt-leb}
+use borrow.Author.Tests.{le-leb, lt-leb}
 use lib.ListN.{length, drop}
 use Rattle.refusal.specs.declared.Refusal.{Refusal}
 use Rattle.refusal.specs.declared.Check.{Check}
@@ -58,23 +58,18 @@ module _ (s : Source) where
     source-refused r e = rw (sym e) (refl, refl)
 
     module _ (ok : Ok ≡ whole) where
-      pub source-empty : length (s .code) ≡ 0 → WalkedBy (walkSource s M) (walked.Refused (refusalAt 19 0)) M
+      pub source-short : length M < length (s .code) → WalkedBy (walkSource s M) (walked.Refused (refusalAt 18 0)) M
       unfolding walkSource
-      source-empty e = rw (sym ok, le-ltb 0 (length (s .code)) (omega arith)) (refl, refl)
+      source-short h = rw (sym ok, lt-leb (length (s .code)) (length M) h) (refl, refl)
 
-      module _ (some : length (s .code) ≡ 0 → ⊥) where
-        pub source-short : length M < length (s .code) → WalkedBy (walkSource s M) (walked.Refused (refusalAt 18 0)) M
-        unfolding walkSource
-        source-short h = rw (sym ok, lt-ltb 0 (length (s .code)) (omega arith), lt-leb (length (s .code)) (length M) h) (refl, refl)
-
-        -- marks Y were searched by themselves over the numbers that keep the code, and stand in front of the rest again
-        pub source-found : {heads words Y : List ℕ} {n : ℕ} (r : Searched) (w : Walked) → length (s .code) ≤ length M → length (s .code) ≤ 65536 → n ≡ length (s .code) → length heads ≡ n
-            → Keeps s heads words → IsFound (keptGraph (s .elem) heads words) n r Y → w ≡ answer (findingAs r) → WalkedBy (walkSource s M) w (Y ++ drop (length (s .code)) M)
-        unfolding walkSource
-        source-found {heads} {words} {Y} {n} r w h few all as-many k f is =
-            let x = keeps-found s heads words k few (omega (arith, few, all, as-many)) (ended (sym ok)) n r Y f in
-            rw (sym ok, lt-ltb 0 (length (s .code)) (omega arith), le-leb (length (s .code)) (length M) h)
-            (is ∙ ap answer (x .0), ap (λ (y : List ℕ). y ++ drop (length (s .code)) M) (x .1 ∙ ap (markList (walkGraph s) (finding (walkGraph s))) all))
+      -- marks Y were searched by themselves over the numbers that keep the code, and stand in front of the rest again
+      pub source-found : {heads words Y : List ℕ} {n : ℕ} (r : Searched) (w : Walked) → length (s .code) ≤ length M → length (s .code) ≤ 65536 → n ≡ length (s .code) → length heads ≡ n
+          → Keeps s heads words → IsFound (keptGraph (s .elem) heads words) n r Y → w ≡ answer (findingAs r) → WalkedBy (walkSource s M) w (Y ++ drop (length (s .code)) M)
+      unfolding walkSource
+      source-found {heads} {words} {Y} {n} r w h few all as-many k f is =
+          let x = keeps-found s heads words k few (omega (arith, few, all, as-many)) (ended (sym ok)) n r Y f in
+          rw (sym ok, le-leb (length (s .code)) (length M) h)
+          (is ∙ ap answer (x .0), ap (λ (y : List ℕ). y ++ drop (length (s .code)) M) (x .1 ∙ ap (markList (walkGraph s) (finding (walkGraph s))) all))
 
   -- ---- demand 3
   met : (M : List ℕ) (f : Finding) → Answer (walkGraph s) (length (s .code)) M f → Promise s (answer f) M

@@ -1,7 +1,7 @@
 -- A refusal has one of 01's numbers, 1 to 20: so no refusal is told as "closed", "leaves" or "end". Assumes nothing.
 use Prim.Native.Nat.{ℕ, zero, suc, _+_, _/_, _≤_}
 use mathlib.Core.Path.{_≡_, refl, sym, subst}
-use mathlib.Core.Bool.{Bool, true, false, cond, not, _&&_}
+use mathlib.Core.Bool.{Bool, true, false, cond, not, _&&_, _||_}
 use mathlib.Core.List.{List, [], _∷_, map}
 use native.Mathlib.Omega.{arith}
 use borrow.Author.Tests.{ltb-true, not-true, eq-eqb}
@@ -46,7 +46,7 @@ use Rattle.graph.specs.Graph.Finding.{closed, leaves}
 use Rattle.steps.specs.Steps.{Source, listing, walkGraph}
 use Rattle.walk.specs.declared.Walked.{Walked}
 use Rattle.walk.specs.declared.Walked.the-variants as walked
-use Rattle.walk.specs.Walk.{answer, walkCheck, walkFound, walkSource, objectSource, walkCall, lentSource, walkLent}
+use Rattle.walk.specs.Walk.{answer, walkCheck, walkFound, walkSource, heldCheck, objectSource, walkCall, lentSource, walkLent}
 
 pub record Row (r : Refusal) : Type 0 where
   pub least : 1 ≤ r .number
@@ -213,16 +213,23 @@ unfolding walkSource
 source-row s M =
     let n = length (s .code) in
     let decoded = list-row (decodes (s .code) (s .opcodes) (s .types) (s .rfs)) (decode-row (s .code) (s .opcodes) (s .types) (s .rfs)) (suc n) 0 in
-    let room = either-row (unless-row (ltb 0 n) 19 (omega arith) (omega arith)) (unless-row (leb n (length M)) 18 (omega arith) (omega arith)) in
+    let room = unless-row (leb n (length M)) 18 (omega arith) (omega arith) in
     guarded-row (walkCheck s (length M)) M (walkFound s M) (either-row (either-row decoded (switch-row (s .opcodes) (s .pooled) (listing s .instrs))) room) (found (finding (walkGraph s)))
   where
     found : (f : Finding) → WalkedRow (answer f)
     found closed = tt
     found (leaves n o) = tt
 
+held-row : (h : HeaderAnswer) → RowOf (heldCheck h)
+held-row (header-answer.At h) = unless-row (eqb (h .length) 0 || ltb 0 (h .«code_len»)) 19 (omega arith) (omega arith)
+held-row (header-answer.Refused r) = no-row
+
 pub walk-row : (f : Files) (k : ℕ) (M : List ℕ) → WalkedRow (walkCall f k M .0)
 unfolding walkCall
-walk-row f k M = guarded-row (firstRefusal (checkFiles f k) (headerCheck (headerAt f k))) M (walkSource (objectSource f k) M) (either-row (files-row f k) (header-row f k)) (source-row (objectSource f k) M)
+walk-row f k M =
+    let h = headerAt f k in
+    guarded-row (firstRefusal (checkFiles f k) (firstRefusal (headerCheck h) (heldCheck h))) M (walkSource (objectSource f k) M)
+    (either-row (files-row f k) (either-row (header-row f k) (held-row h))) (source-row (objectSource f k) M)
 
 pub walk-lent-row : (f : Files) (w : PoolObject) (code M : List ℕ) → WalkedRow (walkLent f w code M .0)
 unfolding walkLent

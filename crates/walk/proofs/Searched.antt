@@ -1,17 +1,17 @@
 -- Where the store's checks found nothing, the walks by searches are the walks of the definition. Assumes nothing.
 use Prim.Native.Nat.{ℕ, _≤_}
-use mathlib.Core.Path.{_≡_, sym, ap, subst, _∙_}
-use mathlib.Core.Bool.{Bool, true}
+use mathlib.Core.Path.{_≡_, refl, sym, ap, subst, _∙_}
+use mathlib.Core.Bool.{Bool, true, false, _||_}
 use mathlib.Core.List.{List}
 use native.Mathlib.Omega.{arith}
 use borrow.Author.Tests.{leb-true}
-use lib.Dec.{leb}
+use lib.Dec.{eqb, leb, ltb}
 use lib.IntN.{ℤ, pos, negsuc, natAbs}
 use lib.ListN.{length, take, drop, length-take}
 use Rattle.laws.proofs.Tests.{by-test}
 use Rattle.refusal.specs.declared.Check.{Check}
 use Rattle.refusal.specs.declared.Check.the-variants.{Ok}
-use Rattle.refusal.specs.Check.{firstRefusal, guardedOn}
+use Rattle.refusal.specs.Check.{refusalAt, firstRefusal, refuseUnless, guardedOn}
 use Rattle.store.specs.declared.Object.{Object}
 use Rattle.store.specs.Records.{objectOf}
 use Rattle.serializer.specs.declared.Elem.{Elem}
@@ -37,10 +37,10 @@ use Rattle.function.specs.mirror.Pool.{poolFound, lentFound}
 use Rattle.function.specs.mirror.Function.{functionOf}
 use Rattle.function.proofs.Searched.{header-found, pool-found, elems-found, lent-pool, lent-elems}
 use Rattle.walk.specs.declared.Walked.{Walked}
-use Rattle.walk.specs.Walk.{walkSource, objectSource, walkCall, lentSource, walkLent}
+use Rattle.walk.specs.Walk.{walkSource, heldCheck, objectSource, walkCall, lentSource, walkLent}
 use Rattle.flow.specs.Opcodes.{opcodesOf}
 use Rattle.steps.specs.Steps.{Source}
-use Rattle.walk.specs.mirror.Search.{sourceOf, sourceBy, headerFound, walkSearched}
+use Rattle.walk.specs.mirror.Search.{sourceOf, sourceBy, headerFound, WalkedBy, walkSearched}
 use Rattle.serializer.specs.declared.RawAt.the-variants as raw-at
 use Rattle.header.specs.declared.HeaderAnswer.the-variants as header-answer
 use Rattle.walk.specs.declared.Walked.the-variants as walked
@@ -78,7 +78,7 @@ module _ (f : Files) (M : List ℕ) where
   abbrev walkBy : HeaderAnswer → Pool → (ℕ → Elem) → Walked × List ℕ
   walkBy h p el =
       let l = layoutOf (f .layout) in
-      guardedOn (headerCheck h) walked.Refused M (walkSource (record { code = codeOf f h; opcodes = opcodesOf (f .opcodes); types = f .types; rfs = l .frame .«reg_file_start»; pooled = found p; elem = el }) M)
+      guardedOn (firstRefusal (headerCheck h) (heldCheck h)) walked.Refused M (walkSource (record { code = codeOf f h; opcodes = opcodesOf (f .opcodes); types = f .types; rfs = l .frame .«reg_file_start»; pooled = found p; elem = el }) M)
 
   pub walked-searched : (k : ℕ) → checkFiles f k ≡ Ok → walkSearched f (objectOf (f .objects) k) M ≡ walkCall f k M
   unfolding walkSearched walkCall
@@ -89,7 +89,7 @@ module _ (f : Files) (M : List ℕ) where
       ap (λ (x : HeaderAnswer). walkBy x p (poolSearched (f .slots) (f .payload) (l .«tagged_size») p)) (header-found f k ok)
       ∙ ap (λ (x : Pool). walkBy (headerAt f k) x (poolSearched (f .slots) (f .payload) (l .«tagged_size») x)) (pool-found f k ok)
       ∙ ap (λ (x : ℕ → Elem). walkBy (headerAt f k) (poolOf f o) x) (elems-found f k ok)
-      ∙ sym (ap (λ (c : Check). guardedOn (firstRefusal c (headerCheck (headerAt f k))) walked.Refused M (walkSource (objectSource f k) M)) ok)
+      ∙ sym (ap (λ (c : Check). guardedOn (firstRefusal c (firstRefusal (headerCheck (headerAt f k)) (heldCheck (headerAt f k)))) walked.Refused M (walkSource (objectSource f k) M)) ok)
 
 -- a header that was found, and its code
 module _ (f : Files) (o : Object) (code : List ℕ) (l : Layout) (h : Header) (e1 : l ≡ layoutOf (f .layout)) (e3 : headerSearched (f .slots) (f .payload) o l ≡ header-answer.At h)
@@ -98,10 +98,17 @@ module _ (f : Files) (o : Object) (code : List ℕ) (l : Layout) (h : Header) (e
   object-short = subst (λ (c : List ℕ). length c ≤ 65536) (sym e4) (code-short (f .slots) (f .payload) o l h e3)
 
   -- what is found once of it is u
-  pub object-walked : (M : List ℕ) (u : Function) (p : Pool) (params : ℤ) → u ≡ functionOf (f .opcodes) l p params → p ≡ poolFound (f .objects) (f .slots) l o
+  -- none holds it
+  pub object-unheld : (M : List ℕ) → (eqb (h .length) 0 || ltb 0 (h .«code_len»)) ≡ false → WalkedBy (walkSearched f o M) (walked.Refused (refusalAt 19 0)) M
+  unfolding walkSearched
+  object-unheld M none =
+      let at : headerFound f o ≡ header-answer.At h = ap (λ (x : Layout). headerSearched (f .slots) (f .payload) o x) (sym e1) ∙ e3 in
+      rw (at, none) (refl, refl)
+
+  pub object-walked : (eqb (h .length) 0 || ltb 0 (h .«code_len»)) ≡ true → (M : List ℕ) (u : Function) (p : Pool) (params : ℤ) → u ≡ functionOf (f .opcodes) l p params → p ≡ poolFound (f .objects) (f .slots) l o
       → walkSource (sourceOf code (f .opcodes) (f .types) (f .slots) (f .payload) u) M ≡ walkSearched f o M
   unfolding walkSearched
-  object-walked M u p params e e2 =
+  object-walked held M u p params e e2 =
       let at : headerFound f o ≡ header-answer.At h = ap (λ (x : Layout). headerSearched (f .slots) (f .payload) o x) (sym e1) ∙ e3 in
       let q = poolFound (f .objects) (f .slots) (layoutOf (f .layout)) o in
       let pool : p ≡ q = e2 ∙ ap (λ (x : Layout). poolFound (f .objects) (f .slots) x o) e1 in
@@ -110,7 +117,8 @@ module _ (f : Files) (o : Object) (code : List ℕ) (l : Layout) (h : Header) (e
       ∙ ap (λ (c : List ℕ). walkSource (source c l p) M) e4
       ∙ ap (λ (x : Layout). walkSource (source (codeOf f (header-answer.At h)) x p) M) e1
       ∙ ap (λ (x : Pool). walkSource (source (codeOf f (header-answer.At h)) (layoutOf (f .layout)) x) M) pool
-      ∙ sym (ap (λ (x : HeaderAnswer). guardedOn (headerCheck x) walked.Refused M (walkSource (source (codeOf f x) (layoutOf (f .layout)) q) M)) at)
+      ∙ sym (ap (λ (c : Bool). guardedOn (refuseUnless c 19) walked.Refused M (walkSource (source (codeOf f (header-answer.At h)) (layoutOf (f .layout)) q) M)) held)
+      ∙ sym (ap (λ (x : HeaderAnswer). guardedOn (firstRefusal (headerCheck x) (heldCheck x)) walked.Refused M (walkSource (source (codeOf f x) (layoutOf (f .layout)) q) M)) at)
 
 -- ---- lent code
 module _ (f : Files) (w : PoolObject) (code : List ℕ) where

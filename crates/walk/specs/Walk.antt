@@ -3,12 +3,16 @@
 use Prim.Native.Nat.{ℕ}
 use mathlib.Core.Path.{_≡_}
 use mathlib.Core.List.{List, _++_}
-use lib.Dec.{leb, ltb}
+use mathlib.Core.Bool.{_||_}
+use lib.Dec.{eqb, leb, ltb}
 use lib.ListN.{length, drop}
 use Rattle.refusal.specs.declared.Check.{Check}
+use Rattle.refusal.specs.declared.Check.the-variants.{Ok}
 use Rattle.refusal.specs.Check.{firstRefusal, refuseUnless, guardedOn}
 use Rattle.store.specs.Records.{objectOf}
 use Rattle.layout.specs.Layout.{layoutOf}
+use Rattle.header.specs.declared.HeaderAnswer.{HeaderAnswer}
+use Rattle.header.specs.declared.HeaderAnswer.the-variants as header-answer
 use Rattle.targets.specs.declared.Pool.{Pool}
 use Rattle.targets.specs.Targets.{poolElem, found}
 use Rattle.function.specs.declared.PoolObject.{PoolObject}
@@ -28,13 +32,9 @@ abbrev pub answer : Finding → Walked
 answer closed = walked.Closed
 answer (leaves n o) = walked.Leaves n o
 
--- 19: "code is empty"; 18: "mark buffer shorter than the code"
-abbrev pub roomCheck : ℕ → ℕ → Check
-roomCheck n room = firstRefusal (refuseUnless (ltb 0 n) 19) (refuseUnless (leb n room) 18)
-
--- 11 to 16, 19 and 18
+-- 11 to 16; 18: "mark buffer shorter than the code"
 abbrev pub walkCheck : Source → ℕ → Check
-walkCheck s room = firstRefusal (listingCheck (s .opcodes) (s .pooled) (listing s)) (roomCheck (length (s .code)) room)
+walkCheck s room = firstRefusal (listingCheck (s .opcodes) (s .pooled) (listing s)) (refuseUnless (leb (length (s .code)) room) 18)
 
 -- the answer, and the marks behind it: "further marks are unchanged"
 abbrev pub walkFound : Source → List ℕ → Walked × List ℕ
@@ -66,15 +66,23 @@ sourceWith f code p =
 abbrev pub objectSource : Files → ℕ → Source
 objectSource f k = sourceWith f (codeOf f (headerAt f k)) (poolOf f (objectOf (f .objects) k))
 
+-- 02, Wish 4: 19 "exactly where it takes its code from an object whose length is positive and no run holds that code". The code is empty there, so that
+-- none of 11 to 16 is met before it.
+abbrev pub heldCheck : HeaderAnswer → Check
+heldCheck (header-answer.At h) = refuseUnless (eqb (h .length) 0 || ltb 0 (h .«code_len»)) 19
+heldCheck (header-answer.Refused r) = Ok
+
 -- the call: rows 1 to 9, then 11 to 16, 19 and 18
 unfoldable pub walkCall : Files → ℕ → List ℕ → Walked × List ℕ
-walkCall f k marks = guardedOn (firstRefusal (checkFiles f k) (headerCheck (headerAt f k))) walked.Refused marks (walkSource (objectSource f k) marks)
+walkCall f k marks =
+    guardedOn (firstRefusal (checkFiles f k) (firstRefusal (headerCheck (headerAt f k)) (heldCheck (headerAt f k)))) walked.Refused marks
+    (walkSource (objectSource f k) marks)
 
 -- ---- the walks of lent code
 -- with the pool of the object that is lent for it, if one is
 abbrev pub lentSource : Files → PoolObject → List ℕ → Source
 lentSource f o code = sourceWith f code (lentPool f o)
 
--- the call: rows 1 to 8 and 10, then 11 to 16, 19 and 18
+-- the call: rows 1 to 8 and 10, then 11 to 16 and 18
 unfoldable pub walkLent : Files → PoolObject → List ℕ → List ℕ → Walked × List ℕ
 walkLent f o code marks = guardedOn (checkLent f o code) walked.Refused marks (walkSource (lentSource f o code) marks)

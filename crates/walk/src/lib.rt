@@ -5,6 +5,7 @@ use flow::Flow;
 use flow::Kind;
 use function::Function;
 use function::PoolObject;
+use header::Header;
 use header::HeaderAnswer;
 use refusal::Check;
 use refusal::Refusal;
@@ -13,7 +14,8 @@ use steps::Kept;
 use store::Object;
 ghost use mathlib.Core.Path.{_≡_};
 ghost use Prim.Native.Nat.{_≤_};
-ghost use mathlib.Core.Bool.{cond};
+ghost use mathlib.Core.Bool.{cond, _||_};
+ghost use lib.Dec.{eqb, ltb};
 ghost use lib.ListN.{length};
 ghost use Rattle.refusal.specs.declared.Check.the-variants.{Ok};
 ghost use Rattle.refusal.specs.Check.{refused, firstRefusal};
@@ -80,7 +82,7 @@ pub fn walk(
     }
 }
 
-// The walks of lent code, with the pool of an object if one is lent: rows 1 to 8, 10, 11 to 16, 19 and 18.
+// The walks of lent code, with the pool of an object if one is lent: rows 1 to 8, 10, 11 to 16 and 18.
 pub fn walk_code(
     marks: &mut [u8],
     code: &[u8],
@@ -139,12 +141,28 @@ fn walk_object(
     match header::header_at_unchecked(slots, payload, object, shape) {
         HeaderAnswer::Refused(refusal) => Walked::Refused(refusal),
         HeaderAnswer::At(h) => {
+            if !is_held(h) {
+                return Walked::Refused(Refusal {
+                    number: refusal::CODE_NOT_HELD,
+                    place: 0,
+                });
+            }
             let pool = function::pool_of(objects, slots, shape, object);
             let f = function::function_of(opcodes, shape, pool, h.parameter_count);
             let code = serializer::lent(payload, h.code_at, h.code_len);
             walk_source(marks, code, opcodes, types, slots, payload, f)
         }
     }
+}
+
+// Whether a run holds the code that a header tells of; none is needed where that is empty.
+fn is_held(h: Header) -> bool
+    ensures { λ r. ⌜ r ≡ (eqb (h .length) 0 || ltb 0 (h .«code_len»)) ⌝ }
+{
+    if h.length == 0 {
+        return true;
+    }
+    0 < h.code_len
 }
 
 // The walks of a code of at most 65,536 bytes, once its files are good.
@@ -290,7 +308,7 @@ fn walk_long(
     )
 }
 
-// The walks of a code, in room for it where no head stands yet: 11 to 16, 19, 18, and the search.
+// The walks of a code, in room for it where no head stands yet: 11 to 16, 18, and the search. Of empty code the search finds nothing that leaves.
 fn walk_in(
     marks: &mut [u8],
     code: &[u8],
@@ -318,12 +336,6 @@ fn walk_in(
     match check {
         Check::Refused(refusal) => Walked::Refused(refusal),
         Check::Ok => {
-            if n == 0 {
-                return Walked::Refused(Refusal {
-                    number: refusal::EMPTY_CODE,
-                    place: 0,
-                });
-            }
             let room = marks.len();
             if room < n {
                 return Walked::Refused(Refusal {

@@ -31,6 +31,8 @@ pub struct Report {
     /// Of the walks that are answered: closed, leaving.
     pub closed: u64,
     pub leaving: u64,
+    /// Of the closed ones, those of empty code.
+    pub empty: u64,
     /// Listings, alike, that show entries of a switch under a prefix.
     pub prefixed: u64,
     pub not_comparable: u64,
@@ -50,6 +52,7 @@ impl Report {
         }
         self.closed += other.closed;
         self.leaving += other.leaving;
+        self.empty += other.empty;
         self.prefixed += other.prefixed;
         self.not_comparable += other.not_comparable;
         self.differences.extend(other.differences);
@@ -67,6 +70,9 @@ impl Report {
         out.extend(none("walk check", &OF_WALKS, &self.walked));
         if whole && self.prefixed == 0 {
             out.push("no listing shows entries of a switch under a prefix".into());
+        }
+        if whole && self.empty == 0 {
+            out.push("no walk check was of empty code".into());
         }
         out
     }
@@ -92,8 +98,8 @@ impl fmt::Display for Report {
         }
         writeln!(
             f,
-            "walk checks that are answered: {} closed, {} leave",
-            self.closed, self.leaving
+            "walk checks that are answered: {} closed, {} of them of empty code, {} leave",
+            self.closed, self.empty, self.leaving
         )?;
         writeln!(f, "listings with entries of a switch under a prefix: {}", self.prefixed)?;
         writeln!(f, "not comparable (two types of one name): {}", self.not_comparable)?;
@@ -237,7 +243,10 @@ impl Compare {
         if same {
             self.report.walked[rust.number()] += 1;
             match rust {
-                Said::Walked(None, _) => self.report.closed += 1,
+                Said::Walked(None, marks) => {
+                    self.report.closed += 1;
+                    self.report.empty += marks.is_empty() as u64;
+                }
                 Said::Walked(Some(_), _) => self.report.leaving += 1,
                 _ => (),
             }
@@ -459,7 +468,7 @@ mod tests {
         let report = Report::default();
         assert_eq!(
             report.missing(true).len(),
-            OF_LISTING.len() + OF_DECODING.len() + OF_WALKS.len() + 1
+            OF_LISTING.len() + OF_DECODING.len() + OF_WALKS.len() + 2
         );
         assert!(report.to_string().ends_with("0 differences\n"));
     }

@@ -291,11 +291,10 @@ fn listing(port: &Port, files: &Files, room: usize) -> Result<Said, Refusal> {
     Ok(Said::Text(listing.into_bytes()))
 }
 
-/// The walk check, after rows 8 and 9.
+/// The walk check, after row 8.
 fn walked(port: &Port, files: &Files, room: usize) -> Result<Said, Refusal> {
     let function = checks::function(files, 0)?;
-    checks::code_length(port.code_length(function))?;
-    let walked = walks::check(port, function, port.code(function), room as u64)?;
+    let walked = walks::check_object(port, function, room as u64)?;
     let left = match walked.outcome {
         Outcome::Closed => None,
         Outcome::Leaves { steps, from } => Some((steps, from)),

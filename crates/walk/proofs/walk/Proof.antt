@@ -5,7 +5,7 @@ use Rattle.store.specs.declared.Object.{Object}
 use Rattle.function.specs.Files.{filesOf, checkFiles}
 use Rattle.function.specs.Code.{headerCheck, headerAt}
 use Rattle.walk.specs.Numbers.{walkedNumbers}
-use Rattle.walk.specs.Walk.{walkCall, objectSource}
+use Rattle.walk.specs.Walk.{heldCheck, walkCall, objectSource}
 use Rattle.walk.specs.mirror.Search.{walkSearched}
 use Rattle.walk.proofs.Answers.{walked-as, promise-unless}
 use Rattle.walk.proofs.Searched.{walked-searched}
@@ -43,7 +43,8 @@ returns-2 c =
     let ok = sym (c .before .before .before .before .before .before .before .check-files .ensures) ∙ c .before .before .before .before .before .enum-told .given .1 in
     let e = ap (λ (x : Object). walkSearched f x (now (a .marks))) (c .before .before .before .object-of .ensures) ∙ walked-searched f (now (a .marks)) (a .object) ok in
     let w = walked-as e (c .before .before .walk-object .ensures) in
-    ((ap walkedNumbers (w .0), w .1), promise-unless (objectSource f (a .object)) (firstRefusal (checkFiles f (a .object)) (headerCheck (headerAt f (a .object)))) (now (a .marks)) w)
+    let h = headerAt f (a .object) in
+    ((ap walkedNumbers (w .0), w .1), promise-unless (objectSource f (a .object)) (firstRefusal (checkFiles f (a .object)) (firstRefusal (headerCheck h) (heldCheck h))) (now (a .marks)) w)
 
 pub walk-spec : {M : Type 1} → statement M
 walk-spec =

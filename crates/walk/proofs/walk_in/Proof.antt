@@ -7,7 +7,7 @@ use lib.Seq.{length-take-le}
 use Rattle.steps.specs.Steps.{Source}
 use Rattle.walk.specs.mirror.Search.{sourceOf}
 use Rattle.walk.proofs.Laws.{clear-part}
-use Rattle.walk.proofs.Answers.{no-fault, source-refused, source-empty, source-short, source-found}
+use Rattle.walk.proofs.Answers.{no-fault, source-refused, source-short, source-found}
 use borrow.Author.Needs.{needs}
 use Rattle.walk.proofs.walk_in.Statement.{statement}
 use Rattle.walk.proofs.walk_in.Tie as tie
@@ -54,7 +54,19 @@ same-length-2 : tie.Need-same-length-2
 same-length-2 c = search needs
 
 returns : tie.Need-returns
-returns c = let k = c .before .before .before .before .before .before .before .before .before .before .before in source-empty (source k) (now (start k .args .marks)) (sym (c .before .before .before .before .before .enum-told .given .1) ∙ k .keep-code .ensures .checked) (c .before .before .before .before .if1 .taken)
+returns c = let k = c .before .before .before .before .before .before .before .before .before .before .before in source-short (source k) (now (start k .args .marks)) (sym (c .before .before .before .before .before .enum-told .given .1) ∙ k .keep-code .ensures .checked) (c .before .before .before .before .if1 .taken)
+
+slice-relend-prefix-search : tie.Need-slice-relend-prefix-search
+slice-relend-prefix-search c = search needs
+
+slice-aggregate-search : tie.Need-slice-aggregate-search
+slice-aggregate-search c = sym (length-take-le _ _ (omega (arith, c .before .before .before .if1 .left)))
+
+search-requires : tie.Need-search-requires
+search-requires c κs = search needs
+
+answer-of-requires : tie.Need-answer-of-requires
+answer-of-requires c κs = search needs
 
 same-length-3 : tie.Need-same-length-3
 same-length-3 c = search needs
@@ -63,19 +75,7 @@ same-length-4 : tie.Need-same-length-4
 same-length-4 c = search needs
 
 returns-2 : tie.Need-returns-2
-returns-2 c = let k = c .before .before .before .before .before .before .before .before .before .before .before .before in source-short (source k) (now (start k .args .marks)) (sym (c .before .before .before .before .before .before .enum-told .given .1) ∙ k .keep-code .ensures .checked) (c .before .before .before .before .before .if1 .left) (c .before .before .before .before .if2 .taken)
-
-slice-relend-prefix-search : tie.Need-slice-relend-prefix-search
-slice-relend-prefix-search c = search needs
-
-slice-aggregate-search : tie.Need-slice-aggregate-search
-slice-aggregate-search c = sym (length-take-le _ _ (omega (arith, c .before .before .before .if2 .left)))
-
-search-requires : tie.Need-search-requires
-search-requires c κs = search needs
-
-answer-of-requires : tie.Need-answer-of-requires
-answer-of-requires c κs = search needs
+returns-2 c = let k = c .before .before .before .before .before .before .before .before .before .before .before in source-refused (source k) (now (start k .args .marks)) (c .before .before .before .before .before .check .given .0 .0) (sym (c .before .before .before .before .before .check .given .1) ∙ k .keep-code .ensures .checked)
 
 same-length-5 : tie.Need-same-length-5
 same-length-5 c = search needs
@@ -83,30 +83,21 @@ same-length-5 c = search needs
 same-length-6 : tie.Need-same-length-6
 same-length-6 c = search needs
 
-returns-3 : tie.Need-returns-3
-returns-3 c = let k = c .before .before .before .before .before .before .before .before .before .before .before in source-refused (source k) (now (start k .args .marks)) (c .before .before .before .before .before .check .given .0 .0) (sym (c .before .before .before .before .before .check .given .1) ∙ k .keep-code .ensures .checked)
-
 same-length-7 : tie.Need-same-length-7
 same-length-7 c = search needs
 
 same-length-8 : tie.Need-same-length-8
 same-length-8 c = search needs
 
-same-length-9 : tie.Need-same-length-9
-same-length-9 c = search needs
-
-same-length-10 : tie.Need-same-length-10
-same-length-10 c = search needs
-
-returns-4 : tie.Need-returns-4
-returns-4 c =
-    let k = c .before .before .before .before .before .before .before .before .before .before .before .before .before .before .before .before .before .before .before .before .before .before in
+returns-3 : tie.Need-returns-3
+returns-3 c =
+    let k = c .before .before .before .before .before .before .before .before .before .before .before .before .before .before .before .before .before .before .before .before .before in
     let s = start k in
-    let ok = sym (c .before .before .before .before .before .before .before .before .before .before .before .before .before .before .before .before .enum-told .given .1) ∙ k .keep-code .ensures .checked in
+    let ok = sym (c .before .before .before .before .before .before .before .before .before .before .before .before .before .before .before .enum-told .given .1) ∙ k .keep-code .ensures .checked in
     let r = c .before .before .before .before .before .before .before .before .before .search in
     let n = k .keep-code .kept .1 .1 .1 .1 .1 .1 .1 .0 ∙ length-take-le (length (now (s .args .code))) (now (s .args .heads)) (s .pre .1) in
-    let room : length (now (s .args .code)) ≤ length (now (s .args .marks)) = omega (arith, c .before .before .before .before .before .before .before .before .before .before .before .before .before .before .if2 .left) in
-    source-found (source k) (now (s .args .marks)) ok (c .before .before .before .before .before .before .before .before .before .before .before .before .before .before .before .if1 .left) (r .result) (c .answer-of .result) room (s .pre .0) n refl (k .keep-code .ensures .keeps (no-fault (source k) (sym ok))) (r .ensures (record { small = omega (arith, n, s .pre .0); as-many = length-take-le (length (now (s .args .code))) (now (s .args .marks)) room ∙ sym n; room = omega (arith, n, s .pre .3) })) (c .answer-of .ensures)
+    let room : length (now (s .args .code)) ≤ length (now (s .args .marks)) = omega (arith, c .before .before .before .before .before .before .before .before .before .before .before .before .before .before .if1 .left) in
+    source-found (source k) (now (s .args .marks)) ok (r .result) (c .answer-of .result) room (s .pre .0) n refl (k .keep-code .ensures .keeps (no-fault (source k) (sym ok))) (r .ensures (record { small = omega (arith, n, s .pre .0); as-many = length-take-le (length (now (s .args .code))) (now (s .args .marks)) room ∙ sym n; room = omega (arith, n, s .pre .3) })) (c .answer-of .ensures)
 
 pub walk-in-spec : {M : Type 1} → statement M
 walk-in-spec =
@@ -122,18 +113,15 @@ walk-in-spec =
     same-length
     same-length-2
     returns
-    same-length-3
-    same-length-4
-    returns-2
     slice-relend-prefix-search
     slice-aggregate-search
     search-requires
     answer-of-requires
+    same-length-3
+    same-length-4
+    returns-2
     same-length-5
     same-length-6
-    returns-3
     same-length-7
     same-length-8
-    same-length-9
-    same-length-10
-    returns-4)
+    returns-3)

@@ -6,7 +6,7 @@ use mathlib.Core.List.{List}
 use lib.ListN.{getD}
 use Rattle.refusal.specs.declared.Check.{Check}
 use Rattle.refusal.specs.declared.Check.the-variants.{Ok}
-use Rattle.refusal.specs.Check.{guardedOn}
+use Rattle.refusal.specs.Check.{firstRefusal, guardedOn}
 use Rattle.store.specs.declared.Object.{Object}
 use Rattle.tables.specs.Records.{prefixOp}
 use Rattle.layout.specs.declared.Layout.{Layout}
@@ -24,7 +24,7 @@ use Rattle.function.specs.Code.{codeOf, headerCheck, codeCheck, listingCheck}
 use Rattle.function.specs.mirror.Pool.{poolFound}
 use Rattle.steps.specs.Steps.{Source, listing}
 use Rattle.steps.specs.mirror.Keeping.{Keeps}
-use Rattle.walk.specs.Walk.{walkSource}
+use Rattle.walk.specs.Walk.{walkSource, heldCheck}
 use Rattle.walk.specs.declared.Walked.{Walked}
 use Rattle.walk.specs.declared.Walked.the-variants as walked
 
@@ -64,5 +64,5 @@ headerFound f o = headerSearched (f .slots) (f .payload) o (layoutOf (f .layout)
 -- the walks of an object whose files are good
 unfoldable pub walkSearched : Files → Object → List ℕ → Walked × List ℕ
 walkSearched f o marks =
-    guardedOn (headerCheck (headerFound f o)) walked.Refused marks
+    guardedOn (firstRefusal (headerCheck (headerFound f o)) (heldCheck (headerFound f o))) walked.Refused marks
     (walkSource (sourceBy (codeOf f (headerFound f o)) (f .opcodes) (f .types) (f .slots) (f .payload) (layoutOf (f .layout)) (poolFound (f .objects) (f .slots) (layoutOf (f .layout)) o)) marks)
