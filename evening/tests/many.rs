@@ -48,10 +48,12 @@ fn peak(name: &str, functions: usize) -> i64 {
     let mut command = batch();
     command.args([Path::new("-j2"), &from, &to, Path::new("--html"), &page]);
     command.stdout(File::create(&lines).unwrap()).stderr(Stdio::null());
-    let run = command.spawn().unwrap();
+    let mut run = command.spawn().unwrap();
     let (mut status, mut usage) = (0, [0; 18]);
     // Safety: the id is that of a child that nobody else waits for; both places are as large as the call writes.
     assert_eq!(unsafe { wait4(run.id() as i32, &mut status, 0, &mut usage) }, run.id() as i32);
+    // It is gone already; the standard library is to know it.
+    let _ = run.wait();
     assert_eq!(status >> 8, 1);
     let lines = std::fs::read_to_string(lines).unwrap();
     for (k, line) in lines.lines().enumerate() {
