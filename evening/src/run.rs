@@ -5,12 +5,14 @@ use crate::arguments::Arguments;
 use crate::check::{Checker, STACK};
 use crate::input::{self, shown_path, Table};
 use crate::interrupt::{tell, Part};
+use crate::limits;
 use crate::output;
 use crate::page::{Fragment, Page};
 use std::collections::BTreeMap;
 use std::ffi::OsString;
 use std::io::{self, IsTerminal, Write};
 use std::os::unix::ffi::OsStrExt;
+use std::path::PathBuf;
 use std::sync::atomic::{AtomicUsize, Ordering::Relaxed};
 use std::sync::mpsc::{sync_channel, Receiver, SyncSender};
 use std::sync::Arc;
@@ -62,7 +64,7 @@ pub fn run(arguments: Arguments) -> Result<bool, String> {
 }
 
 /// Everything that can be wrong before the first function.
-fn prepared(arguments: Arguments) -> Result<Job, String> {
+fn prepared(mut arguments: Arguments) -> Result<Job, String> {
     let folder = &arguments.input;
     if !folder.is_dir() {
         return Err(format!("no folder {}", shown_path(folder)));
@@ -73,20 +75,22 @@ fn prepared(arguments: Arguments) -> Result<Job, String> {
         return Err(format!("no function in {}", shown_path(folder)));
     }
     output::prepare(folder, &arguments.output, arguments.html.as_deref())?;
-    let threads = arguments.threads.min(names.len());
-    let page = match &arguments.html {
-        Some(file) => {
-            let new = Page::new(file, threads);
-            Some(new.map_err(|e| output::cannot("write", file, &e))?)
-        }
-        None => None,
+    let wanted = arguments.threads.min(names.len());
+    arguments.threads = limits::threads(wanted);
+    if arguments.threads < wanted {
+        tell(&format!("only {} threads: no more files may be open", arguments.threads));
+    }
+    let new = |file: &PathBuf| {
+        let page = Page::new(file, arguments.threads);
+        page.map_err(|e| output::cannot("write", file, &e))
     };
+    let page = arguments.html.as_ref().map(new).transpose()?;
     Ok(Job { arguments, table, names, next: AtomicUsize::new(0), page })
 }
 
 /// Starts the threads. Where the system has room for some of them only, these do the work.
 fn begin(job: &Arc<Job>) -> Result<Receiver<Told>, String> {
-    let threads = job.arguments.threads.min(job.names.len());
+    let threads = job.arguments.threads;
     let (sender, receiver) = sync_channel(WAITING * threads);
     for thread in 0..threads {
         let (job, sender) = (job.clone(), sender.clone());
@@ -144,9 +148,10 @@ struct Tally {
 impl Tally {
     /// Prints the lines as they come, in the order of the names, until all threads are done.
     fn collect(&mut self, job: &Job, receiver: &Receiver<Told>) -> Result<(), String> {
-        let shows = io::stderr().is_terminal();
-        let mut shown = Instant::now();
         let mut out = io::stdout().lock();
+        // Lines on a terminal are progress enough.
+        let shows = io::stderr().is_terminal() && !out.is_terminal();
+        let mut shown = Instant::now();
         for told in receiver {
             let name = job.names[told.number].as_bytes();
             let line = match job.arguments.json {
@@ -216,7 +221,8 @@ impl Tally {
         let all = self.done;
         let [refused, unreadable, leaves, closed] = KINDS.map(|kind| self.count(kind));
         let rate = all as f64 / time.as_secs_f64().max(1e-6);
-        format!("{all} functions: {closed} closed, {leaves} leave, {refused} refused, {unreadable} unreadable; {rate:.0} functions a second")
+        let places = if rate < 10.0 { 2 } else { 0 };
+        format!("{all} functions: {closed} closed, {leaves} leave, {refused} refused, {unreadable} unreadable; {rate:.places$} functions a second")
     }
 }
 

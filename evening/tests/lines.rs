@@ -87,6 +87,25 @@ fn the_programs_own_functions() {
     assert_eq!(out, format!("jscd_list closed\njscd_walk {answer}"));
 }
 
+/// Empty code is closed, and its listing is the header. A length that no run holds is the walk check's 19, and is listed likewise.
+#[test]
+fn code_that_is_not_there() {
+    let input = input("empty");
+    put(&input, "empty", &[]);
+    let payload = put(&input, "not held", SAMPLE).join("payload.bin");
+    let mut bytes = std::fs::read(&payload).unwrap();
+    bytes[4] = 11;
+    std::fs::write(&payload, bytes).unwrap();
+    let [from, to] = both(&input);
+    let (status, out, _) = call([&from, &to]);
+    assert_eq!((status, out.as_str()), (1, "empty closed\nnot held refused 19 at 0\n"));
+    for (name, length) in [("empty.txt", 0), ("not held.txt", 11)] {
+        let text = std::fs::read_to_string(to.join(name)).unwrap();
+        assert!(text.starts_with(&format!("Bytecode length: {length}\n")), "{text}");
+        assert_eq!(text.lines().count(), 6);
+    }
+}
+
 /// Document 01's largest code: 65,535 LdaZero and a Return. Its listing has 2.5 MB, and is listed and walked all the same.
 #[test]
 fn a_listing_longer_than_64_kib() {

@@ -42,6 +42,22 @@ fn numbers_of_threads() {
     assert!(!to.exists());
 }
 
+/// Where few files may be open there are fewer threads, and no function is unreadable for it.
+#[test]
+fn few_open_files() {
+    let input = input("open files");
+    for k in 0..200 {
+        put(&input, k.to_string(), SAMPLE);
+    }
+    let [from, to] = both(&input);
+    let script = "ulimit -n 64; exec \"$0\" -j 1000 --html \"$2/index.html\" \"$@\"";
+    let mut command = Command::new("sh");
+    command.args(["-c", script, env!("CARGO_BIN_EXE_batch")]).args([&from, &to]);
+    let (status, out, errors) = said(command.output().unwrap());
+    assert_eq!((status, out.lines().filter(|line| line.ends_with(" closed")).count()), (0, 200));
+    assert!(errors.starts_with("batch: only 16 threads: no more files may be open\n"), "{errors}");
+}
+
 /// Every name is one line, and no two lines are alike; its listing has the name as it is.
 #[test]
 fn names_of_any_bytes() {
