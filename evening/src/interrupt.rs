@@ -3,7 +3,7 @@
 use std::fs::File;
 use std::io::{self, IsTerminal, Write};
 use std::path::{Path, PathBuf};
-use std::sync::atomic::{AtomicBool, AtomicI32, Ordering::Relaxed};
+use std::sync::atomic::{AtomicBool, AtomicI32, Ordering::Relaxed, Ordering::SeqCst};
 use std::sync::{PoisonError, RwLock};
 use std::time::Duration;
 
@@ -24,6 +24,7 @@ extern "C" {
 /// The signal that came, or 0.
 static SIGNAL: AtomicI32 = AtomicI32::new(0);
 static CLOSED: AtomicBool = AtomicBool::new(false);
+static LEAVING: AtomicBool = AtomicBool::new(false);
 /// Every name that a part may have. Who writes here lets no part be made.
 static PARTS: RwLock<Vec<PathBuf>> = RwLock::new(Vec::new());
 
@@ -68,6 +69,7 @@ pub fn watch() {
 /// Removes every file that is not whole and ends the program. A further signal does not wait for what is told.
 pub fn leave(status: i32, message: Option<&str>) -> ! {
     let parts = PARTS.write().unwrap_or_else(PoisonError::into_inner);
+    LEAVING.store(true, SeqCst);
     for part in parts.iter() {
         let _ = std::fs::remove_file(part);
     }
@@ -76,14 +78,20 @@ pub fn leave(status: i32, message: Option<&str>) -> ! {
         unsafe { signal(number, DEFAULT) };
     }
     if let Some(message) = message {
-        tell(message);
+        say(message);
     }
     // Safety: nothing is buffered. No thread makes a file meanwhile, since `parts` is held.
     unsafe { _exit(status) }
 }
 
-/// A line on standard error, and nothing more where it cannot be written.
+/// A line on standard error, and nothing more where it cannot be written. Once the program leaves, what fails for that is not told.
 pub fn tell(message: &str) {
+    if !LEAVING.load(SeqCst) {
+        say(message);
+    }
+}
+
+fn say(message: &str) {
     let mut errors = io::stderr().lock();
     let clear = if errors.is_terminal() { "\r\x1b[K" } else { "" };
     let _ = errors.write_all(format!("{clear}batch: {message}\n").as_bytes());
