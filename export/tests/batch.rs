@@ -1,4 +1,4 @@
-//! The script `batch` over exported functions: it goes on after a refusal, and says one line for each function.
+//! The program `batch` over exported functions: it goes on after a refusal, and says one line for each function.
 
 use jscd_export::export;
 use oracle::port::{Port, STORE, TABLE};
@@ -57,7 +57,6 @@ fn lines_and_listings() {
         assert_eq!(lines[4], "placeholder closed");
         assert_eq!(lines[5], "sample closed");
         assert_eq!(lines.len(), 6);
-        assert!(!err.contains("jscd_walk is not built"), "{err}");
         assert!(err.contains("6 functions: 3 closed, 1 leave, 1 refused, 1 unreadable"), "{err}");
         assert_eq!(run.status.code(), Some(1));
         let listing = std::fs::read_to_string(to.join("sample.txt")).unwrap();
