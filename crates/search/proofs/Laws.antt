@@ -199,7 +199,7 @@ module _ (el : ℕ → Elem) (heads words catches : List ℕ) where
       grown-parts a b c d =
           let ab = grown-join {P = λ (t : ℕ). (any (isTo t) (onSteps o h) || any (isTo t) (targetSteps words o h)) ≡ true} a b (λ t x. or-left _ x) (λ t x. or-right (any (isTo t) (onSteps o h)) x) (λ t x. or-either _ _ x) in
           let abc = grown-join {P = λ (t : ℕ). ((any (isTo t) (onSteps o h) || any (isTo t) (targetSteps words o h)) || any (isTo t) (catchSteps catches o)) ≡ true} ab c (λ t x. or-left _ x)
-              (λ t x. or-right (any (isTo t) (onSteps o h) || any (isTo t) (targetSteps words o h)) x) (λ t x. or-either _ _ x) in
+          (λ t x. or-right (any (isTo t) (onSteps o h) || any (isTo t) (targetSteps words o h)) x) (λ t x. or-either _ _ x) in
           grown-join abc d
           (λ t x. to-succ t (⊎-elim (λ y. ⊎-elim (on-goes t) (target-goes t) (or-either _ _ y)) (catch-goes t) (or-either _ _ x)))
           (λ t x. to-succ t (table-goes t x))

@@ -91,7 +91,18 @@ fn search_in(
     if head_at(heads, 0) == 0 {
         return Searched::Closed;
     }
-    levels(slots, payload, blocks, ts, pool, heads, words, catches, marks, queue)
+    levels(
+        slots,
+        payload,
+        blocks,
+        ts,
+        pool,
+        heads,
+        words,
+        catches,
+        marks,
+        queue,
+    )
 }
 
 // Level after level, until one has an entry that exits or nothing new is reached.
