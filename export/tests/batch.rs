@@ -21,6 +21,8 @@ fn put(folder: &Path, name: &str, code: &[u8]) {
             &export::STORE_FILES,
             export::function(&port.cache, &port.table, 0).unwrap().to_vec(),
         ),
+        // The sample's functions have no handlers.
+        (name, &[export::HANDLERS_FILE], vec![Vec::new()]),
     ];
     for (part, names, bodies) in parts {
         std::fs::create_dir_all(folder.join(part)).unwrap();
