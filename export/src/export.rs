@@ -482,13 +482,13 @@ fn byte_array<'c>(
     let Some(SlotValue::Raw(Raw { off, len, .. })) = cache.slot_at(id, 1) else {
         return Err(format!("the handler table, object {id}, has no run behind its map"));
     };
-    let run = off.checked_add(*len).and_then(|end| cache.payload().get(*off..end));
-    let split = run.and_then(|run| run.split_at_checked(cache.tagged_size()));
-    let held = split.and_then(|(length, bytes)| {
-        let length = crate::serializer::decode_smi_bytes(length)?;
-        bytes.get(..usize::try_from(length).ok()?)
-    });
-    held.ok_or_else(|| format!("the handler table, object {id}, has no run of its length"))
+    let ts = cache.tagged_size();
+    let held = || {
+        let run = cache.payload().get(*off..off.checked_add(*len)?)?;
+        let length = crate::serializer::decode_smi_bytes(run.get(..ts)?)?;
+        run.get(ts..)?.get(..usize::try_from(length).ok()?)
+    };
+    held().ok_or_else(|| format!("the handler table, object {id}, has no run of its length"))
 }
 
 /// The length of the code that `render_sfi` finds: 0 where no run holds it.
