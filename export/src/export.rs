@@ -449,11 +449,12 @@ fn handler_table(
         Some(SlotValue::Repeat(_, inner)) => inner.as_ref().as_ref(),
         value => value.and_then(|v| v.as_ref()),
     };
-    let root = |number: usize| table.roots.get(number).map_or("without a name", String::as_str);
     match value {
         Some(Ref::Object(id)) if id < cache.objects.len() => Ok(Some(id)),
-        Some(Ref::Root(number)) => match root(number) {
-            "EmptyByteArray" | "EmptyTrustedByteArray" => Ok(None),
+        // No root has entries. Which one is the empty table is known of the same versions as the entries.
+        Some(Ref::Root(_)) if prediction_bits(table).is_err() => Ok(None),
+        Some(Ref::Root(number)) => match table.root_name(number).unwrap_or("without a name") {
+            "EmptyByteArray" => Ok(None),
             name => Err(format!("the handler table is root {number} ({name}), no empty ByteArray")),
         },
         _ => Err(format!("slot {slot} of object {bytecode_array} holds no handler table")),

@@ -260,7 +260,6 @@ fn every_function_has_a_folder() {
     // The sample has a run in the place of the handler table.
     let none = Slot { index: 3, value: SlotValue::Ref(Ref::Root(0)) };
     port.cache.objects[0].slots.push(none);
-    port.table.roots = vec!["EmptyByteArray".into()];
     let again = port.cache.objects[port.shared_function_info()].clone();
     port.cache.objects.push(again);
     let mut without = port.cache.objects[port.shared_function_info()].clone();
