@@ -85,6 +85,7 @@ struct Chosen {
     number: usize,
     files: Files,
     code: Vec<u8>,
+    handlers: Vec<u8>,
     call: Call,
     said: Vec<u8>,
 }
@@ -148,6 +149,7 @@ fn choose(
             number,
             files: recorded.files.clone(),
             code: recorded.code.to_vec(),
+            handlers: recorded.handlers.to_vec(),
             call: call.clone(),
             said: recorded.said.to_vec(),
         };
@@ -160,7 +162,8 @@ fn weight(recorded: &Recorded) -> usize {
     let lent = lent(&recorded.call);
     let files = (0..8).filter(|k| lent & 1 << k != 0).map(|k| recorded.files.body[k].len());
     let code = if lends_code(&recorded.call) { recorded.code.len() } else { 0 };
-    files.sum::<usize>() + code + recorded.said.len()
+    let handlers = if lends_handlers(&recorded.call) { recorded.handlers.len() } else { 0 };
+    files.sum::<usize>() + code + handlers + recorded.said.len()
 }
 
 /// Sets what a call is lent; the rest stays.
@@ -172,6 +175,9 @@ fn set(writer: &mut Writer, files: &mut Files, right: &Chosen) {
     writer.files(files);
     if lends_code(&right.call) {
         writer.code(&right.code);
+    }
+    if lends_handlers(&right.call) {
+        writer.handlers(&right.handlers);
     }
 }
 
@@ -191,7 +197,7 @@ fn kinds(function: usize, said: &[u8]) -> Vec<String> {
         ARRAY_ELEM | JUMP_ENTRY => vec![format!("kind {}", number(said, 0))],
         SLOT_AT => vec![format!("kind {}, inner {}", number(said, 0), number(said, 4))],
         JUMP_TABLE => vec![format!("{} entries", number(said, 0).min(2))],
-        WALK | WALK_CODE => {
+        WALK | WALK_CODE | WALK_WITH | WALK_CODE_WITH => {
             let leaves = number(said, 0) == 1;
             let marks = said.len() - if leaves { 25 } else { 9 };
             let what = if leaves { "leaves" } else { "closed" };
@@ -226,7 +232,7 @@ fn wrongs(right: &Chosen) -> Result<Vec<Vec<u8>>, String> {
             out.extend([1, said.len() / 2, said.len() - 1].map(|at| flipped(said, at, 0)));
             out.push(said[..said.len() - 1].to_vec());
         }
-        (1, WALK | WALK_CODE) => out.extend(wrong_walks(right)?),
+        (1, WALK | WALK_CODE | WALK_WITH | WALK_CODE_WITH) => out.extend(wrong_walks(right)?),
         (1, LAST_BYTES | WALK_LAST_BYTES) => out.extend(wrong_runs(said)),
         (_, function) => {
             out.extend((0..said.len() / 8).flat_map(|k| wrong_number(said, k)));
@@ -290,7 +296,8 @@ fn closed_empty() -> Vec<u8> {
 /// refusal, 19 as before Wish 4, or 18.
 fn wrong_walks(right: &Chosen) -> Result<Vec<Vec<u8>>, String> {
     let said = &right.said[..];
-    let Answer::Walked(walked) = ask(&right.files, &right.code, &right.call)? else {
+    let asked = ask_with(&right.files, &right.code, &right.handlers, &right.call)?;
+    let Answer::Walked(walked) = asked else {
         return Err("a recorded walk is none".into());
     };
     let numbers = if number(said, 0) == 0 { 1 } else { 3 };
@@ -396,7 +403,7 @@ mod tests {
             let recorded = folder.join(format!("wrong-{}.vec", program.name));
             assert!(std::fs::read(recorded).unwrap() == recording.writer.out, "{}", program.name);
             let calls = vectors::each(&recording.writer.out, |wrong| {
-                let answer = ask(wrong.files, wrong.code, &wrong.call)?;
+                let answer = wrong.asked()?;
                 assert!(
                     vectors::said(&answer) != wrong.said,
                     "{}: item at {}",
