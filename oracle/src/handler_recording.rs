@@ -18,8 +18,8 @@ use crate::walk_classes::classes;
 use crate::walk_codes::{self, set_length, set_store, Element};
 
 /// Random tables, codes by each, record files for each code, and codes that are an object's.
-const TABLES: usize = 20;
-const CODES: usize = 16;
+const TABLES: usize = 16;
+const CODES: usize = 15;
 const SETS: usize = 6;
 const OBJECTS_CODES: usize = 2;
 /// Only contents longer than this are looked for in the file.

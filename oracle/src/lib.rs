@@ -51,6 +51,7 @@ pub mod walk_classes;
 pub mod walk_codes;
 pub mod walk_recording;
 pub mod walk_short;
+pub mod walk_tries;
 pub mod walk_v8;
 pub mod walks;
 pub mod write_cases;

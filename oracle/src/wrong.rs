@@ -12,7 +12,7 @@ pub struct Program {
     pub name: &'static str,
     functions: &'static [usize],
     files: &'static [&'static str],
-    /// Recordings of real functions: of each the shortest calls are changed too, however long their tables are.
+    /// Those of real functions: of each the shortest calls are changed too, however long their tables are.
     real: &'static [&'static str],
 }
 
@@ -59,14 +59,22 @@ pub const PROGRAMS: [Program; 3] = [
             "entry.vec",
             "header.vec",
             "layout.vec",
+            "caches.vec",
         ],
         real: &["caches.vec"],
     },
     Program {
         name: "rewalk",
-        functions: &[WALK, WALK_CODE, WALK_LAST_BYTES],
-        files: &["walk-1.vec", "walk-2.vec", "walk-few.vec"],
-        real: &["walk-caches.vec"],
+        functions: &[WALK, WALK_CODE, WALK_LAST_BYTES, WALK_WITH, WALK_CODE_WITH],
+        files: &[
+            "walk-1.vec",
+            "walk-2.vec",
+            "walk-few.vec",
+            "walk-caches.vec",
+            "walk-handlers.vec",
+            "walk-tries.vec",
+        ],
+        real: &["walk-caches.vec", "walk-tries.vec"],
     },
 ];
 
@@ -95,7 +103,7 @@ struct Chosen {
 pub fn record(program: &Program, folder: &Path) -> Result<WrongRecording, String> {
     let mut chosen: BTreeMap<(usize, String), Chosen> = BTreeMap::new();
     let mut number = 0;
-    for file in program.files.iter().chain(program.real) {
+    for file in program.files {
         let path = folder.join(file);
         let right = std::fs::read(&path).map_err(|e| format!("{}: {e}", path.display()))?;
         let real = program.real.contains(file).then_some(*file);
@@ -138,7 +146,7 @@ fn choose(
     if !program.functions.contains(&call.function) || long {
         return;
     }
-    for kind in kinds(call.function, recorded.said) {
+    for kind in kinds(recorded) {
         let kind = real.map(|file| format!("{kind} in {file}")).unwrap_or(kind);
         let key = (call.function, kind);
         if chosen.get(&key).is_some_and(|held| held.weight <= weight) {
@@ -186,7 +194,19 @@ fn number(said: &[u8], k: usize) -> u64 {
 }
 
 /// Which kinds of answers this is one of.
-fn kinds(function: usize, said: &[u8]) -> Vec<String> {
+fn kinds(recorded: &Recorded) -> Vec<String> {
+    let mut out = kinds_of(recorded.call.function, recorded.said);
+    // Walks with records are also told apart by what is said without them.
+    if lends_handlers(&recorded.call) && recorded.said[0] == 1 {
+        let without = ask(recorded.files, recorded.code, &recorded.call).expect("it was asked");
+        if vectors::said(&without) != recorded.said {
+            out.extend(out.clone().into_iter().map(|kind| kind + ", otherwise without records"));
+        }
+    }
+    out
+}
+
+fn kinds_of(function: usize, said: &[u8]) -> Vec<String> {
     match said[0] {
         0 => return vec!["nothing".into()],
         2 => return vec![format!("refused {}", number(said, 0))],
@@ -292,8 +312,8 @@ fn closed_empty() -> Vec<u8> {
     vec![1, 0, 0, 0, 0, 0, 0, 0, 0]
 }
 
-/// A number, a mark, a bit behind the marks, or eight marks missing; of empty code a mark where there is none, or a
-/// refusal, 19 as before Wish 4, or 18.
+/// A number, a mark, a bit behind the marks, or eight marks missing, or what is said without handler records; of empty code
+/// a mark where there is none, or a refusal, 19 as before Wish 4, or 18.
 fn wrong_walks(right: &Chosen) -> Result<Vec<Vec<u8>>, String> {
     let said = &right.said[..];
     let asked = ask_with(&right.files, &right.code, &right.handlers, &right.call)?;
@@ -307,6 +327,9 @@ fn wrong_walks(right: &Chosen) -> Result<Vec<Vec<u8>>, String> {
         out.extend([[said, &[1]].concat(), refused_0(19), refused_0(18)]);
         return Ok(out);
     }
+    // What is said where no records are lent.
+    let without = vectors::said(&ask(&right.files, &right.code, &right.call)?);
+    out.extend((without != said).then_some(without));
     let bits = 1 + 8 * numbers;
     let mut marks = vec![0, count / 2, count - 1];
     // Bits behind the last mark are 0.

@@ -7,6 +7,7 @@ use oracle::classes::{self, Classes};
 use oracle::port::{Port, STORE, TABLE};
 use oracle::records::Files;
 use oracle::vectors::{self, Writer};
+use oracle::walk_tries::{self, TriesRecording};
 use oracle::{cases, code_recording, instructions, recording, sample, v8};
 use oracle::{entry_recording, header_recording, jump_recording, list_recording, named};
 use oracle::{handler_classes, handler_recording};
@@ -42,6 +43,8 @@ const USAGE: &str = "usage:
   oracle record-walk-short OUT [few]  write vectors of the walk over all short codes, or over few of them
   oracle record-walk-v8 FOLDER OUT    write vectors of the walk over V8's functions (v8-listings)
   oracle record-handlers SEED OUT     write vectors of the walk with handler records, and count their classes
+  oracle record-tries EXPORTED PRINT OUT   write vectors of the walk over such functions with V8's handler tables, and count them
+  oracle record-tries-v8 FOLDER OUT   the same for V8's functions (v8-listings)
   oracle record-programs CRATES       write data, args and stdout of jscd_list, jscd_walk, file_cases
   oracle walk DIR [MARKS]             the walk over object 0's code with a mark buffer of so many bytes (65536)";
 
@@ -81,6 +84,12 @@ fn main() -> ExitCode {
         ["replay", file] => replay(file),
         ["record-walk", seed, out @ ..] => record_walk(seed, out),
         ["record-handlers", seed, out] => record_handlers(seed, out),
+        ["record-tries", folder, print, out] => {
+            record_tries(walk_tries::record(Path::new(folder), Path::new(print)), out)
+        }
+        ["record-tries-v8", folder, out] => {
+            record_tries(walk_tries::record_v8(Path::new(folder)), out)
+        }
         ["record-walk-v8", folder, out] => record_walk_v8(Path::new(folder), out),
         ["record-walk-short", out] => record_walk_short(out, false),
         ["record-walk-short", out, "few"] => record_walk_short(out, true),
@@ -313,6 +322,15 @@ fn record_walk(seed: &str, out: &[&str]) -> Result<bool, String> {
 fn record_handlers(seed: &str, out: &str) -> Result<bool, String> {
     let recording = handler_recording::record(word(seed)?)?;
     classified(out, &recording.writer, &recording.classes, &handler_classes::wanted())
+}
+
+fn record_tries(recording: Result<TriesRecording, String>, out: &str) -> Result<bool, String> {
+    let recording = recording?;
+    let vectors = &recording.writer;
+    std::fs::write(out, &vectors.out).map_err(|e| format!("{out}: {e}"))?;
+    print!("{}", recording.report());
+    println!("{} calls, {} bytes", vectors.calls, vectors.out.len());
+    Ok(recording.others.is_empty())
 }
 
 /// The same as `classified` for vectors in several files.
