@@ -242,7 +242,7 @@ fn kinds_of(function: usize, said: &[u8]) -> Vec<String> {
     }
 }
 
-/// What is said, with one thing changed, in each way.
+/// What is said, with one thing changed, in each way; and what is said where no handler records are lent.
 fn wrongs(right: &Chosen) -> Result<Vec<Vec<u8>>, String> {
     let said = &right.said[..];
     let mut out = vec![changed(said, 0, |status| (status + 1) % 4)];
@@ -272,6 +272,10 @@ fn wrongs(right: &Chosen) -> Result<Vec<Vec<u8>>, String> {
         }
     }
     out.push([said, &[0]].concat());
+    if lends_handlers(&right.call) {
+        let without = vectors::said(&ask(&right.files, &right.code, &right.call)?);
+        out.extend((without != said).then_some(without));
+    }
     out.sort();
     out.dedup();
     Ok(out)
@@ -312,8 +316,8 @@ fn closed_empty() -> Vec<u8> {
     vec![1, 0, 0, 0, 0, 0, 0, 0, 0]
 }
 
-/// A number, a mark, a bit behind the marks, or eight marks missing, or what is said without handler records; of empty code
-/// a mark where there is none, or a refusal, 19 as before Wish 4, or 18.
+/// A number, a mark, a bit behind the marks, or eight marks missing; of empty code a mark where there is none, or a
+/// refusal, 19 as before Wish 4, or 18.
 fn wrong_walks(right: &Chosen) -> Result<Vec<Vec<u8>>, String> {
     let said = &right.said[..];
     let asked = ask_with(&right.files, &right.code, &right.handlers, &right.call)?;
@@ -327,9 +331,6 @@ fn wrong_walks(right: &Chosen) -> Result<Vec<Vec<u8>>, String> {
         out.extend([[said, &[1]].concat(), refused_0(19), refused_0(18)]);
         return Ok(out);
     }
-    // What is said where no records are lent.
-    let without = vectors::said(&ask(&right.files, &right.code, &right.call)?);
-    out.extend((without != said).then_some(without));
     let bits = 1 + 8 * numbers;
     let mut marks = vec![0, count / 2, count - 1];
     // Bits behind the last mark are 0.
