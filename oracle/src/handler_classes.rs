@@ -16,7 +16,7 @@ use std::collections::BTreeSet;
 const FEW: usize = 64;
 
 /// Names near those that never go to a handler.
-pub const NEAR_NEVER: [&str; 3] = ["Returns", "SuspendGenerators", "Suspend"];
+pub const NEAR_NEVER: [&str; 3] = ["Retur", "SuspendGenerators", "Suspend"];
 
 // ---- refusals ----
 
