@@ -6,7 +6,7 @@ use jscd_capi::{Given, Refusal, Walked};
 use std::alloc::{alloc_zeroed, Layout};
 use std::path::Path;
 
-/// The stack of a thread that checks: a walk takes up to 725,000 bytes of it.
+/// The stack of a thread that checks: a walk takes up to 992,000 bytes of it.
 pub const STACK: usize = 4 << 20;
 
 /// Room for a listing at first. Most have it; it is kept between functions.

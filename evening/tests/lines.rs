@@ -70,7 +70,7 @@ fn all_closed() {
     assert_eq!((status, out.as_str()), (0, "sample closed\n"));
 }
 
-/// What the gate runs the two programs on: the walk's answer stands in its recorded output.
+/// What the gate runs the two programs on, the walk with its handler: its answer stands in its recorded output.
 #[test]
 fn the_programs_own_functions() {
     let input = input("programs");
@@ -82,6 +82,9 @@ fn the_programs_own_functions() {
             &STORE.map(|file| std::fs::read(data.join(file)).unwrap()),
         );
     }
+    let handlers = "handlers.bin";
+    std::fs::copy(crates("jscd_walk/data").join(handlers), input.join("jscd_walk").join(handlers))
+        .unwrap();
     let answer = std::fs::read_to_string(crates("jscd_walk/stdout")).unwrap();
     let (_, out, _) = call(both(&input));
     assert_eq!(out, format!("jscd_list closed\njscd_walk {answer}"));

@@ -1,6 +1,5 @@
 //! One question put to both sides: our code through its archive, and the Rust with document 01's checks.
 
-use crate::calls;
 use jscd_capi as ours;
 use oracle::ask::Answer;
 use oracle::checks::{self, Refusal};
@@ -147,12 +146,13 @@ impl Ours {
     pub fn handled(&mut self, asked: Handled, length: usize) -> Said {
         let [opcodes, types, runtime, intrinsic, layout, objects, slots, payload] =
             &asked.files.body;
+        let given = ours::Given { handlers: asked.handlers };
         let mut marks = vec![FILLED; asked.room];
         let answer = match asked.lent {
             Some(LentCode { code, pool }) => {
                 let object = pool.then_some(0);
                 let lent = ours::Lent { opcodes, types, layout, objects, slots, payload, object };
-                calls::walk_code_with(&lent, code, asked.handlers, &mut marks)
+                ours::walk_code_with(&lent, code, given, &mut marks)
             }
             None => {
                 let lent = ours::Files {
@@ -165,7 +165,7 @@ impl Ours {
                     slots,
                     payload,
                 };
-                calls::walk_with(&lent, 0, asked.handlers, &mut marks)
+                ours::walk_with(&lent, 0, given, &mut marks)
             }
         };
         marked(answer, marks, length)
