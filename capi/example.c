@@ -1,6 +1,6 @@
 /* Lists the function whose eight record files are in a folder, checks its walks, and by their tables decodes the first instruction of a small
    code, writes it again and with another number, and finds the target of a jump and the walks of another, for which no object is lent; then
-   the walks of code that is empty.
+   the walks of code that is empty, and walks that an exception handler takes further.
      cc -Icapi/include capi/example.c target/staticlib/libcapi.a -o target/example && target/example crates/jscd_list/data */
 #include "jscd.h"
 #include <stdio.h>
@@ -103,5 +103,20 @@ int main(int argc, char **argv) {
     answer = jscd_walk_code(marks, 0, none, 0, f[0].bytes, f[0].length, f[1].bytes, f[1].length, f[4].bytes, f[4].length, none, 0,
                             none, 0, none, 0, 0, 0, &steps, &place);
     print_walked("empty lent code: ", answer, steps, place);
+
+    /* The jump's code, whose Return is at 2: while the jump is carried out, the handler is at 2, and then where no instruction starts. */
+    uint8_t handlers[12] = {0, 0, 0, 0, 2, 0, 0, 0, 2, 0, 0, 0};
+    answer = jscd_walk_code_with(marks, sizeof marks, jump, sizeof jump, f[0].bytes, f[0].length, f[1].bytes, f[1].length, f[4].bytes,
+                                 f[4].length, none, 0, none, 0, none, 0, 0, 0, handlers, sizeof handlers, &steps, &place);
+    print_walked("handler at 2: ", answer, steps, place);
+    handlers[8] = 1;
+    answer = jscd_walk_code_with(marks, sizeof marks, jump, sizeof jump, f[0].bytes, f[0].length, f[1].bytes, f[1].length, f[4].bytes,
+                                 f[4].length, none, 0, none, 0, none, 0, 0, 0, handlers, sizeof handlers, &steps, &place);
+    print_walked("handler at 1: ", answer, steps, place);
+    /* The listed function with the same handlers: its own code has no instruction at 1 either. */
+    answer = jscd_walk_with(marks, sizeof marks, f[0].bytes, f[0].length, f[1].bytes, f[1].length, f[2].bytes, f[2].length, f[3].bytes,
+                            f[3].length, f[4].bytes, f[4].length, f[5].bytes, f[5].length, f[6].bytes, f[6].length, f[7].bytes,
+                            f[7].length, 0, handlers, sizeof handlers, &steps, &place);
+    print_walked("the function's: ", answer, steps, place);
     return 0;
 }

@@ -10,6 +10,8 @@ const MOST_CODE: usize = 65_536;
 const MOST_ENTRIES: usize = 4_096;
 const MOST_OBJECTS: usize = 65_536;
 const MOST_SLOTS: usize = 1_048_576;
+/// Wish 5's.
+const MOST_HANDLERS: usize = 4_096;
 
 /// The Rust looks at each slot for each element: it lists code that is so many times shorter, in time that is in proportion.
 const SHORTER: usize = 64;
@@ -45,13 +47,15 @@ const CASES: [fn() -> Case; 7] =
 pub fn report() -> Result<(), String> {
     println!("Worst cases within document 01's limits: milliseconds of processor time.");
     println!("listing, walk: our whole calls, the buffer as long as the listing; rust: render_sfi where it can be had.");
-    println!("A time of the Rust with /{SHORTER} behind it is for code that is so many times shorter.");
+    println!(
+        "A time of the Rust with /{SHORTER} behind it is for code that is so many times shorter."
+    );
     let [a, b, c, d, e] = ["case", "bytes", "listing", "walk", "rust"];
     println!("{a:<24} {b:>6} {c:>10} {d:>10} {e:>13}");
     for case in CASES {
         println!("{}", line(&case())?);
     }
-    Ok(())
+    report_handlers()
 }
 
 fn line(case: &Case) -> Result<String, String> {
@@ -182,6 +186,58 @@ fn over_pool(name: &'static str, instruction: &[u8], pool: impl Fn(&mut Files)) 
     let (files, code) = of(MOST_CODE);
     let (shorter, _) = of(MOST_CODE / SHORTER);
     Case { name, files, code, rust: Rust::Shorter(shorter) }
+}
+
+// ---- handlers ----
+
+/// Where handler record k is in the longest code: from start to end.
+type Range = fn(u32) -> [u32; 2];
+
+const END: u32 = MOST_CODE as u32;
+
+const HANDLERS: [(&str, Range); 4] = [
+    ("over the whole code", |_| [0, END]),
+    ("nested", |k| [8 * k, END - 8 * k]),
+    ("staggered", |k| [16 * k, END.min(16 * k + 4_096)]),
+    // A search from the last record downward looks at them all for each other instruction.
+    ("over the first byte", |_| [0, 1]),
+];
+
+/// The walks of lent code, one-byte instructions, with as many handler records as there may be, all with the Return as their handler, and
+/// without any.
+fn report_handlers() -> Result<(), String> {
+    println!("Walks of lent code, {MOST_CODE} one-byte instructions: {MOST_HANDLERS} handler records, and none.");
+    let [a, b, c] = ["records", "with", "none"];
+    println!("{a:<24} {b:>10} {c:>10}");
+    for (name, range) in HANDLERS {
+        let record = |k| {
+            let [start, end] = range(k);
+            [start, end, END - 1]
+        };
+        let numbers = (0..MOST_HANDLERS as u32).flat_map(record);
+        let handlers: Vec<u8> = numbers.flat_map(u32::to_le_bytes).collect();
+        let [with, without] = [&handlers[..], &[]].map(|handlers| walk_code(name, handlers));
+        println!("{name:<24} {:>10.1} {:>10.1}", with?, without?);
+    }
+    Ok(())
+}
+
+/// The time of a walk with these handlers, which is closed.
+fn walk_code(name: &str, handlers: &[u8]) -> Result<f64, String> {
+    let (table, code) = (sample::table(), repeated(&[LDA_ZERO], MOST_CODE));
+    let ours::Files { opcodes, types, layout, .. } = lent(&table);
+    let (objects, slots, payload) = (&[][..], &[][..], &[][..]);
+    let lent = ours::Lent { opcodes, types, layout, objects, slots, payload, object: None };
+    let mut marks = vec![0; code.len()];
+    let mut answer = Ok(ours::Walked::Closed);
+    let taken = milliseconds(|| {
+        answer = ours::walk_code_with(&lent, &code, ours::Given { handlers }, &mut marks);
+        0
+    });
+    match answer {
+        Ok(ours::Walked::Closed) => Ok(taken),
+        other => Err(format!("handlers {name}: {other:?}, not closed")),
+    }
 }
 
 // ---- records ----

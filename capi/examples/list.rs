@@ -1,7 +1,8 @@
-//! Lists the function whose eight record files are in a folder, and checks its walks.
+//! Lists the function whose eight record files are in a folder, and checks its walks, with its exception handlers where there is a handlers.bin.
 //!   cargo run --example list ../crates/jscd_list/data
 
-use jscd_capi::{list, walk, Files, Walked};
+use jscd_capi::{list, walk_with, Files, Given, Walked};
+use std::io::ErrorKind;
 use std::path::Path;
 
 const NAMES: [&str; 8] =
@@ -18,7 +19,11 @@ fn main() -> Result<(), Box<dyn std::error::Error>> {
     let mut out = vec![0; 65_536];
     let length = list(&files, 0, &mut out)?;
     print!("{}", std::str::from_utf8(&out[..length])?);
-    match walk(&files, 0, &mut out)? {
+    let handlers = match read("handlers") {
+        Err(e) if e.kind() == ErrorKind::NotFound => Vec::new(),
+        read => read?,
+    };
+    match walk_with(&files, 0, Given { handlers: &handlers }, &mut out)? {
         Walked::Closed => println!("closed"),
         Walked::Leaves { steps, from } => println!("leaves steps {steps} from {from}"),
     }

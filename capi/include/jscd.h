@@ -5,9 +5,10 @@
    `marks`, `steps`, `place`, `values` and `numbers` overlap nothing else that is lent. No function keeps a pointer, allocates, prints or fails
    otherwise than by its answer. A length is below 2^63.
 
-   Stack: a call of jscd_walk or jscd_walk_code takes up to 725,000 bytes whatever its code's length (ten bytes for each of 65,536 bytes of
-   code, and two summaries of a pool's slots, are part of each call), so that a thread of 1 MB has it and one of 512 KB has not; jscd_list up to
-   53,000, jscd_target and jscd_entry up to 17,600, jscd_decode and jscd_write up to 1,700. Measured on the archive (x86-64), not proved. */
+   Stack: a walk call, with handler records or without, takes up to 992,000 bytes whatever its code's length (fourteen bytes for each of 65,536
+   bytes of code, four of them for handlers, and two summaries of a pool's slots, are part of each call), so that a thread of 1 MB has it and one of
+   512 KB has not; jscd_list up to 53,000, jscd_target and jscd_entry up to 17,600, jscd_decode and jscd_write up to 1,700. Measured on the
+   archive (x86-64), not proved. */
 #ifndef JSCD_H
 #define JSCD_H
 
@@ -18,7 +19,7 @@
 extern "C" {
 #endif
 
-/* Answers: JSCD_DONE, JSCD_END, JSCD_LEAVES, or the number of a refusal, 1 to 23 (README.md, "Refusals"). */
+/* Answers: JSCD_DONE, JSCD_END, JSCD_LEAVES, or the number of a refusal, 1 to 25 (README.md, "Refusals"). */
 #define JSCD_DONE 0
 #define JSCD_LEAVES 254
 #define JSCD_END 255
@@ -55,6 +56,27 @@ uint8_t jscd_walk(uint8_t *marks, size_t marks_len,
                   const uint8_t *payload, size_t payload_len,
                   size_t object, size_t *steps, size_t *place);
 
+/* The same walks with exception handlers: `handlers` has records of 12 bytes, up to 4,096, each of three 4-byte numbers, little-endian: start, end,
+   handler offset. From an instruction whose offset (its prefix's, where it has one) is at least start and below end a walk may also go to the handler:
+   to that of the last record that holds the offset. Throw, ReThrow and Abort, which else end a walk, have this step too; Return and
+   SuspendGenerator have not. It is judged as a jump: it leaves where no instruction starts at the handler offset, which is not tested otherwise.
+   The answer and the marks are told as by jscd_walk, over these walks; with no bytes of handlers it is jscd_walk. Two refusals more, behind 18:
+   24  handlers_len is not that of whole records, or of more than 4,096; *place is 0
+   25  a record's start is not below its end, or its end is beyond the code; *place is the lowest such record's number. Empty code has every end
+       above 0 beyond it, so that any record is 25 there. */
+uint8_t jscd_walk_with(uint8_t *marks, size_t marks_len,
+                       const uint8_t *opcodes, size_t opcodes_len,
+                       const uint8_t *types, size_t types_len,
+                       const uint8_t *runtime, size_t runtime_len,
+                       const uint8_t *intrinsic, size_t intrinsic_len,
+                       const uint8_t *layout, size_t layout_len,
+                       const uint8_t *objects, size_t objects_len,
+                       const uint8_t *slots, size_t slots_len,
+                       const uint8_t *payload, size_t payload_len,
+                       size_t object,
+                       const uint8_t *handlers, size_t handlers_len,
+                       size_t *steps, size_t *place);
+
 /* Lent code. It is decoded by the opcodes, types and layout that are lent with it. Its pool is that of object number `object`, of any kind, of
    the store objects, slots and payload, where `lent` is not 0; with 0 it has none, and the store and `object` are not looked at. */
 
@@ -68,6 +90,19 @@ uint8_t jscd_walk_code(uint8_t *marks, size_t marks_len,
                        const uint8_t *slots, size_t slots_len,
                        const uint8_t *payload, size_t payload_len,
                        uint8_t lent, size_t object, size_t *steps, size_t *place);
+
+/* The same with exception handlers, lent and told as for jscd_walk_with. */
+uint8_t jscd_walk_code_with(uint8_t *marks, size_t marks_len,
+                            const uint8_t *code, size_t code_len,
+                            const uint8_t *opcodes, size_t opcodes_len,
+                            const uint8_t *types, size_t types_len,
+                            const uint8_t *layout, size_t layout_len,
+                            const uint8_t *objects, size_t objects_len,
+                            const uint8_t *slots, size_t slots_len,
+                            const uint8_t *payload, size_t payload_len,
+                            uint8_t lent, size_t object,
+                            const uint8_t *handlers, size_t handlers_len,
+                            size_t *steps, size_t *place);
 
 /* The first of the values that jscd_target and jscd_entry tell. */
 #define JSCD_NOTHING 0 /* no target, no table */

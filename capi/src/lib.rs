@@ -110,6 +110,13 @@ pub enum Walked {
     Leaves { steps: usize, from: usize },
 }
 
+/// What is lent beside the files; later wishes add to it. The default is nothing.
+#[derive(Debug, Default, Clone, Copy)]
+pub struct Given<'a> {
+    /// Exception handlers: records of 12 bytes, up to 4,096 of them, each start, end and handler offset.
+    pub handlers: &'a [u8],
+}
+
 /// The walks through a BytecodeArray's code, with marks for the offsets that they come by: at least as many as the code has bytes. After a
 /// refusal `marks` is as it was. Empty code is closed, without a mark; 19 is a length above 0 whose code no run holds.
 pub fn walk(files: &Files, object: usize, marks: &mut [u8]) -> Result<Walked, Refusal> {
@@ -141,6 +148,52 @@ pub fn walk(files: &Files, object: usize, marks: &mut [u8]) -> Result<Walked, Re
             &mut place,
         )
     };
+    walked(number, steps, place)
+}
+
+/// The same with what is lent beside the files: from an instruction that a handler's record holds, a walk may also go to the handler. 24 and 25
+/// are faults of the records.
+pub fn walk_with(
+    files: &Files,
+    object: usize,
+    given: Given,
+    marks: &mut [u8],
+) -> Result<Walked, Refusal> {
+    let (mut steps, mut place) = (0, 0);
+    let f = files;
+    // Safety: as in `walk`.
+    let number = unsafe {
+        jscd_walk_with(
+            marks.as_mut_ptr(),
+            marks.len(),
+            f.opcodes.as_ptr(),
+            f.opcodes.len(),
+            f.types.as_ptr(),
+            f.types.len(),
+            f.runtime.as_ptr(),
+            f.runtime.len(),
+            f.intrinsic.as_ptr(),
+            f.intrinsic.len(),
+            f.layout.as_ptr(),
+            f.layout.len(),
+            f.objects.as_ptr(),
+            f.objects.len(),
+            f.slots.as_ptr(),
+            f.slots.len(),
+            f.payload.as_ptr(),
+            f.payload.len(),
+            object,
+            given.handlers.as_ptr(),
+            given.handlers.len(),
+            &mut steps,
+            &mut place,
+        )
+    };
+    walked(number, steps, place)
+}
+
+/// The answer of a walk check.
+fn walked(number: u8, steps: usize, place: usize) -> Result<Walked, Refusal> {
     match number {
         DONE => Ok(Walked::Closed),
         LEAVES => Ok(Walked::Leaves { steps, from: place }),
@@ -198,11 +251,47 @@ pub fn walk_code(lent: &Lent, code: &[u8], marks: &mut [u8]) -> Result<Walked, R
             &mut place,
         )
     };
-    match number {
-        DONE => Ok(Walked::Closed),
-        LEAVES => Ok(Walked::Leaves { steps, from: place }),
-        _ => Err(Refusal { number, place }),
-    }
+    walked(number, steps, place)
+}
+
+/// The same with what is lent beside, as for `walk_with`.
+pub fn walk_code_with(
+    lent: &Lent,
+    code: &[u8],
+    given: Given,
+    marks: &mut [u8],
+) -> Result<Walked, Refusal> {
+    let (mut steps, mut place) = (0, 0);
+    let f = lent;
+    let (has_object, object) = f.pool();
+    // Safety: as in `walk`.
+    let number = unsafe {
+        jscd_walk_code_with(
+            marks.as_mut_ptr(),
+            marks.len(),
+            code.as_ptr(),
+            code.len(),
+            f.opcodes.as_ptr(),
+            f.opcodes.len(),
+            f.types.as_ptr(),
+            f.types.len(),
+            f.layout.as_ptr(),
+            f.layout.len(),
+            f.objects.as_ptr(),
+            f.objects.len(),
+            f.slots.as_ptr(),
+            f.slots.len(),
+            f.payload.as_ptr(),
+            f.payload.len(),
+            has_object,
+            object,
+            given.handlers.as_ptr(),
+            given.handlers.len(),
+            &mut steps,
+            &mut place,
+        )
+    };
+    walked(number, steps, place)
 }
 
 /// The target of a jump.
@@ -432,6 +521,32 @@ extern "C" {
         place: *mut usize,
     ) -> u8;
 
+    fn jscd_walk_with(
+        marks: *mut u8,
+        marks_len: usize,
+        opcodes: *const u8,
+        opcodes_len: usize,
+        types: *const u8,
+        types_len: usize,
+        runtime: *const u8,
+        runtime_len: usize,
+        intrinsic: *const u8,
+        intrinsic_len: usize,
+        layout: *const u8,
+        layout_len: usize,
+        objects: *const u8,
+        objects_len: usize,
+        slots: *const u8,
+        slots_len: usize,
+        payload: *const u8,
+        payload_len: usize,
+        object: usize,
+        handlers: *const u8,
+        handlers_len: usize,
+        steps: *mut usize,
+        place: *mut usize,
+    ) -> u8;
+
     fn jscd_walk_code(
         marks: *mut u8,
         marks_len: usize,
@@ -451,6 +566,31 @@ extern "C" {
         payload_len: usize,
         lent: u8,
         object: usize,
+        steps: *mut usize,
+        place: *mut usize,
+    ) -> u8;
+
+    fn jscd_walk_code_with(
+        marks: *mut u8,
+        marks_len: usize,
+        code: *const u8,
+        code_len: usize,
+        opcodes: *const u8,
+        opcodes_len: usize,
+        types: *const u8,
+        types_len: usize,
+        layout: *const u8,
+        layout_len: usize,
+        objects: *const u8,
+        objects_len: usize,
+        slots: *const u8,
+        slots_len: usize,
+        payload: *const u8,
+        payload_len: usize,
+        lent: u8,
+        object: usize,
+        handlers: *const u8,
+        handlers_len: usize,
         steps: *mut usize,
         place: *mut usize,
     ) -> u8;

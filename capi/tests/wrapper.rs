@@ -1,7 +1,7 @@
 //! The wrapper on document 01's sample, whose files are in the listing program's data folder.
 
-use jscd_capi::{decode, entry, list, target, walk, walk_code, write};
-use jscd_capi::{Entry, Files, Instr, Lent, Operand, Refusal, Target, Walked};
+use jscd_capi::{decode, entry, list, target, walk, walk_code, walk_code_with, walk_with, write};
+use jscd_capi::{Entry, Files, Given, Instr, Lent, Operand, Refusal, Target, Walked};
 use std::path::Path;
 
 fn file(name: &str) -> Vec<u8> {
@@ -309,6 +309,146 @@ fn empty_lent_code() {
     let none = Lent { opcodes: &[], ..sample.alone() };
     assert_eq!(walk_code(&none, &[], &mut marks), refused(1));
     assert_eq!(marks, [7; 6]);
+}
+
+/// Handler records: start, end, handler offset.
+fn handlers(records: &[[u32; 3]]) -> Vec<u8> {
+    records.iter().flatten().flat_map(|number| number.to_le_bytes()).collect()
+}
+
+/// The sample's table and, behind it, 0c Throw, 0d ReThrow, 0e Abort and 0f SuspendGenerator, none with an operand.
+fn with_ends() -> Sample {
+    let mut sample = Sample::new();
+    for name in ["Throw", "ReThrow", "Abort", "SuspendGenerator"] {
+        let start = sample.files[0].len();
+        sample.files[0].extend(name.as_bytes());
+        sample.files[0].resize(start + 64, 0);
+    }
+    sample
+}
+
+/// The answer for lent code with these handlers, and its marks.
+fn handled(code: &[u8], records: &[[u32; 3]]) -> (Result<Walked, Refusal>, Vec<u8>) {
+    let (sample, records) = (with_ends(), handlers(records));
+    let mut marks = vec![7; code.len()];
+    let given = Given { handlers: &records };
+    (walk_code_with(&sample.alone(), code, given, &mut marks), marks)
+}
+
+const CLOSED: Result<Walked, Refusal> = Ok(Walked::Closed);
+
+fn leaves(steps: usize, from: usize) -> Result<Walked, Refusal> {
+    Ok(Walked::Leaves { steps, from })
+}
+
+/// Wish 5. `02 0b 02 0b` is closed; with a handler where an instruction starts that one is reached, with another the walk leaves.
+#[test]
+fn a_handler_is_a_step() {
+    let code = [0x02, 0x0b, 0x02, 0x0b];
+    assert_eq!(handled(&code, &[]), (CLOSED, vec![1, 1, 0, 0]));
+    assert_eq!(handled(&code, &[[0, 1, 2]]), (CLOSED, vec![1, 1, 1, 1]));
+    assert_eq!(handled(&code, &[[0, 4, 3]]), (CLOSED, vec![1, 1, 0, 1]));
+    for handler in [4, 5, u32::MAX] {
+        assert_eq!(handled(&code, &[[0, 1, handler]]), (leaves(1, 0), vec![1, 0, 0, 0]));
+    }
+    // A step of two: to the handler, and from there off the end. A shorter way is found first.
+    let code = [0x02, 0x02, 0x02, 0x0b, 0x02];
+    assert_eq!(handled(&code, &[[0, 1, 4]]), (leaves(2, 4), vec![1, 1, 0, 0, 1]));
+    assert_eq!(handled(&code, &[[0, 1, 4], [1, 2, 9]]), (leaves(2, 1), vec![1, 1, 0, 0, 1]));
+    // What no walk comes by has no step.
+    assert_eq!(handled(&code, &[[4, 5, 9]]), (CLOSED, vec![1, 1, 1, 1, 0]));
+}
+
+/// Wish 5. Throw, ReThrow and Abort end a walk and have the step; Return and SuspendGenerator have not, with a prefix neither.
+#[test]
+fn what_ends_a_walk() {
+    for end in [0x0c, 0x0d, 0x0e] {
+        assert_eq!(handled(&[end, 0x0b], &[]), (CLOSED, vec![1, 0]));
+        assert_eq!(handled(&[end, 0x0b], &[[0, 1, 1]]), (CLOSED, vec![1, 1]));
+        assert_eq!(handled(&[end, 0x0b], &[[0, 1, 2]]), (leaves(1, 0), vec![1, 0]));
+        assert_eq!(handled(&[0x00, end], &[[0, 1, 1]]), (leaves(1, 0), vec![1, 0]));
+    }
+    for end in [0x0b, 0x0f] {
+        assert_eq!(handled(&[end, 0x0b], &[[0, 1, 9]]), (CLOSED, vec![1, 0]));
+        assert_eq!(handled(&[0x00, end, 0x0b], &[[0, 3, 9]]), (CLOSED, vec![1, 0, 0]));
+    }
+}
+
+/// Wish 5. The last record that holds the offset counts, and a prefix's offset is its instruction's.
+#[test]
+fn the_record_that_counts() {
+    let code = [0x02, 0x0b];
+    assert_eq!(handled(&code, &[[0, 2, 9], [0, 1, 1]]).0, CLOSED);
+    assert_eq!(handled(&code, &[[0, 1, 1], [0, 2, 9]]).0, leaves(1, 0));
+    assert_eq!(handled(&code, &[[0, 1, 9], [1, 2, 9]]).0, leaves(1, 0));
+    assert_eq!(handled(&code, &[[1, 2, 9]]).0, CLOSED);
+    // `00 03 80 01`, LdaSmi.Wide.
+    let code = [0x00, 0x03, 0x80, 0x01, 0x0b];
+    assert_eq!(handled(&code, &[[0, 1, 9]]).0, leaves(1, 0));
+    assert_eq!(handled(&code, &[[1, 5, 9]]).0, CLOSED);
+}
+
+/// Wish 5. Numbers 24 and 25, behind 18 and what comes before it; the marks are as they were.
+#[test]
+fn handlers_that_are_refused() {
+    let sample = Sample::new();
+    let code = [0x02, 0x0b];
+    let said = |records: &[u8], room: usize| {
+        let mut marks = [7; 3];
+        let given = Given { handlers: records };
+        let said = walk_code_with(&sample.alone(), &code, given, &mut marks[..room]);
+        assert!(said.is_ok() || marks == [7; 3]);
+        said
+    };
+    let refused = |number, place| Err(Refusal { number, place });
+    let whole = handlers(&[[0, 1, 1]]);
+    assert_eq!(said(&whole.repeat(4_096), 3), CLOSED);
+    assert_eq!(said(&whole.repeat(4_097), 3), refused(24, 0));
+    for length in [1, 11, 13, 23] {
+        assert_eq!(said(&whole.repeat(2)[..length], 3), refused(24, 0));
+    }
+    for bad in [[0, 0, 1], [1, 0, 1], [2, 2, 1], [0, 3, 1], [0, u32::MAX, 1], [u32::MAX, 1, 1]] {
+        assert_eq!(said(&handlers(&[bad]), 3), refused(25, 0));
+        assert_eq!(said(&handlers(&[[0, 2, 1], bad, [9, 9, 9]]), 3), refused(25, 1));
+    }
+    // 18, 24, 25.
+    assert_eq!(said(&[7; 5], 1), refused(18, 0));
+    assert_eq!(said(&[7; 25], 2), refused(24, 0));
+    let none = Lent { opcodes: &[], ..sample.alone() };
+    assert_eq!(walk_code_with(&none, &code, Given { handlers: &[7] }, &mut []), refused(1, 0));
+    // In empty code every record ends beyond the code.
+    let empty =
+        |records: &[u8]| walk_code_with(&sample.alone(), &[], Given { handlers: records }, &mut []);
+    assert_eq!((empty(&[]), empty(&whole), empty(&[7])), (CLOSED, refused(25, 0), refused(24, 0)));
+}
+
+/// Wish 5. The handlers of an object's code; where none are given the answer is that of the walk without.
+#[test]
+fn handlers_of_an_object() {
+    let sample = Sample::with_code([0x02, 0x0b, 0x02, 0x02, 0x0b]);
+    let with = |records: &[u8], marks: &mut [u8]| {
+        walk_with(&sample.lent(), 0, Given { handlers: records }, marks)
+    };
+    let mut marks = [7; 6];
+    assert_eq!(with(&handlers(&[[0, 1, 3]]), &mut marks), CLOSED);
+    assert_eq!(marks, [1, 1, 0, 1, 1, 7]);
+    assert_eq!(with(&handlers(&[[0, 1, 5]]), &mut marks), leaves(1, 0));
+    assert_eq!(marks, [1, 0, 0, 0, 0, 7]);
+    let kept = marks;
+    let refused = |number, place| Err(Refusal { number, place });
+    assert_eq!(with(&handlers(&[[0, 1, 1], [4, 6, 0]]), &mut marks), refused(25, 1));
+    assert_eq!(with(&[0; 13], &mut marks), refused(24, 0));
+    assert_eq!(with(&[0; 13], &mut marks[..4]), refused(18, 0));
+    let held = with_length(6, 51);
+    assert_eq!(walk_with(&held.lent(), 0, Given { handlers: &[7] }, &mut []), refused(19, 0));
+    assert_eq!(walk_with(&held.lent(), 1, Given { handlers: &[7] }, &mut []), refused(8, 0));
+    assert_eq!(marks, kept);
+    for sample in [Sample::new(), with_length(0, 51), sample] {
+        let (mut with, mut without) = ([7; 6], [7; 6]);
+        let said = walk_with(&sample.lent(), 0, Given::default(), &mut with);
+        assert_eq!(said, walk(&sample.lent(), 0, &mut without));
+        assert_eq!(with, without);
+    }
 }
 
 /// Document 01's row `09 00 02 05 0b`: with the pool that the object has, `{ 5: @4 }` and closed; without an object no table.

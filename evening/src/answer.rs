@@ -57,6 +57,8 @@ pub struct Listing {
 pub struct Finding {
     pub answer: Answer,
     pub listing: Option<Listing>,
+    /// How many handler records the walk check was lent; None where the function has no file of them, or no listing.
+    pub handlers: Option<usize>,
 }
 
 impl Finding {
@@ -67,6 +69,11 @@ impl Finding {
             Answer::Refused(_) => Kind::Refused,
             Answer::Unreadable(_) => Kind::Unreadable,
         }
+    }
+
+    /// Whether its walks were looked at without its handlers, of which there is no file.
+    pub fn lacks_handlers(&self) -> bool {
+        self.listing.is_some() && self.handlers.is_none()
     }
 
     pub fn line(&self, name: &[u8]) -> String {
@@ -94,10 +101,12 @@ impl Finding {
         let listing = number(self.listing.map(|l| l.length));
         let code = number(self.listing.map(|l| l.code));
         let instructions = number(self.listing.map(|l| l.instructions));
+        let handlers = number(self.handlers);
         let answer = self.kind().word();
         let _ = write!(out, ",\"answer\":\"{answer}\",\"steps\":{steps},\"from\":{from}");
         let _ = write!(out, ",\"refusal\":{refusal},\"unreadable\":{why},\"listing\":{listing}");
-        let _ = writeln!(out, ",\"code\":{code},\"instructions\":{instructions}}}");
+        let _ = write!(out, ",\"code\":{code},\"instructions\":{instructions}");
+        let _ = writeln!(out, ",\"handlers\":{handlers}}}");
         out
     }
 }

@@ -2,11 +2,11 @@
 
 use crate::answer::{Answer, Finding, Listing};
 use crate::input::{Store, Table};
-use jscd_capi::{Refusal, Walked};
+use jscd_capi::{Given, Refusal, Walked};
 use std::alloc::{alloc_zeroed, Layout};
 use std::path::Path;
 
-/// The stack of a thread that checks: a walk takes up to 725,000 bytes of it.
+/// The stack of a thread that checks: a walk takes up to 992,000 bytes of it.
 pub const STACK: usize = 4 << 20;
 
 /// Room for a listing at first. Most have it; it is kept between functions.
@@ -17,6 +17,8 @@ const MOST_ROOM: usize = 2 << 30;
 const MOST_CODE: usize = 65_536;
 /// The lines of a listing's header.
 const HEADER_LINES: usize = 6;
+/// Bytes of a handler record.
+const HANDLER: usize = 12;
 /// The listing is too long for the buffer.
 const TOO_LONG: u8 = 17;
 
@@ -40,13 +42,14 @@ impl Checker {
     pub fn check(&mut self, table: &Table, folder: &Path) -> Finding {
         self.length = 0;
         if let Err(why) = self.store.read(folder) {
-            return Finding { answer: Answer::Unreadable(why), listing: None };
+            return Finding { answer: Answer::Unreadable(why), listing: None, handlers: None };
         }
         if let Err(refusal) = self.list(table) {
-            return Finding { answer: Answer::Refused(refusal), listing: None };
+            return Finding { answer: Answer::Refused(refusal), listing: None, handlers: None };
         }
         let answer = self.walk(table);
-        Finding { answer, listing: Some(counted(self.text())) }
+        let handlers = self.store.handlers().map(|records| records.len() / HANDLER);
+        Finding { answer, listing: Some(counted(self.text())), handlers }
     }
 
     /// The listing; none where there is no answer to list.
@@ -83,10 +86,11 @@ impl Checker {
         }
     }
 
-    /// Exception handlers are to be lent here, once the archive's walk takes them (Wish 5): `Store` will have read them from `handlers.bin`.
+    /// The walks, with the function's exception handlers, or without any where it has no file of them.
     fn walk(&mut self, table: &Table) -> Answer {
         self.marks.fill(0);
-        match jscd_capi::walk(&self.store.files(table), 0, &mut self.marks) {
+        let given = Given { handlers: self.store.handlers().unwrap_or_default() };
+        match jscd_capi::walk_with(&self.store.files(table), 0, given, &mut self.marks) {
             Ok(Walked::Closed) => Answer::Closed,
             Ok(Walked::Leaves { steps, from }) => Answer::Leaves { steps, from },
             Err(refusal) => Answer::Refused(refusal),

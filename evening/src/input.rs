@@ -10,8 +10,6 @@ use std::os::unix::fs::OpenOptionsExt;
 use std::path::Path;
 
 const TABLE: &str = "table";
-/// A function's exception handlers, which the walk check does not take yet.
-const HANDLERS: &str = "handlers.bin";
 
 /// O_NONBLOCK: opening a pipe does not wait for a writer.
 pub const NO_WAIT: i32 = 0o4_000;
@@ -27,6 +25,8 @@ const TABLE_FILES: [(&str, usize); 5] = [
 /// The same for the files of a function.
 const STORE_FILES: [(&str, usize); 3] =
     [("objects.bin", 65_536 * 16), ("slots.bin", 1_048_576 * 24), ("payload.bin", 16_777_216)];
+/// And for that of a function's exception handlers, which may be missing.
+const HANDLERS_FILE: (&str, usize) = ("handlers.bin", 4_096 * 12);
 
 /// The names of the functions, sorted by their bytes: every folder but the table's. What leads nowhere is named too, so that it is told.
 pub fn names(folder: &Path) -> Result<Vec<OsString>, String> {
@@ -61,11 +61,12 @@ impl Table {
     }
 }
 
-/// The three files of a function. A thread has one, whose room it uses again.
+/// The three files of a function, and its handler records. A thread has one, whose room it uses again.
 #[derive(Debug, Default)]
 pub struct Store {
     files: [Vec<u8>; 3],
-    pub has_handlers: bool,
+    handlers: Vec<u8>,
+    has_handlers: bool,
 }
 
 impl Store {
@@ -74,8 +75,18 @@ impl Store {
         for ((name, most), bytes) in STORE_FILES.iter().zip(&mut self.files) {
             read(&folder.join(name), *most, bytes)?;
         }
-        self.has_handlers = folder.join(HANDLERS).exists();
-        Ok(())
+        let (name, most) = HANDLERS_FILE;
+        let path = folder.join(name);
+        self.has_handlers = is_there(&path);
+        match self.has_handlers {
+            true => read(&path, most, &mut self.handlers),
+            false => Ok(()),
+        }
+    }
+
+    /// The function's handler records; None where it has no file of them.
+    pub fn handlers(&self) -> Option<&[u8]> {
+        self.has_handlers.then_some(&self.handlers)
     }
 
     pub fn files<'a>(&'a self, table: &'a Table) -> Files<'a> {
@@ -83,6 +94,12 @@ impl Store {
         let [objects, slots, payload] = &self.files;
         Files { opcodes, types, runtime, intrinsic, layout, objects, slots, payload }
     }
+}
+
+/// Whether anything has that name, also what leads nowhere or cannot be looked at: reading it then tells why.
+fn is_there(path: &Path) -> bool {
+    let looked = path.symlink_metadata();
+    !looked.is_err_and(|e| e.kind() == io::ErrorKind::NotFound)
 }
 
 /// A whole file; of one that is too long, one byte more than it may have, for which it is refused.

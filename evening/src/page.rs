@@ -124,7 +124,7 @@ const LEGEND: &str = "</nav>
 <span class=u>Grey lines</span> are reached by no walk, \
 <span class=x>the marked line</span> is where the shortest walk leaves, and \
 <s>a target</s> is underlined where no instruction starts. \
-Walks do not enter exception handlers yet: what only a handler reaches is grey.</p>
+Walks enter exception handlers, unless a function has no handlers.bin.</p>
 ";
 
 /// A function's element, from behind its `<details` on, so that the page can say whether it is open.
@@ -143,11 +143,18 @@ fn put_function(
     write!(out, " class={word}><summary><b>{name}</b> <i>{answer}</i>")?;
     if let Some(listing) = finding.listing {
         let (code, instructions) = (listing.code, listing.instructions);
-        write!(out, " <small>{code} bytes, {instructions} instructions</small>")?;
+        write!(out, " <small>{code} bytes, {instructions} instructions")?;
+        if let Some(handlers) = finding.handlers.filter(|handlers| *handlers > 0) {
+            write!(out, ", {handlers} handlers")?;
+        }
+        out.write_all(b"</small>")?;
     }
     out.write_all(b"</summary>\n")?;
     let lines = Lines::of(number, finding, checker);
     put_words(out, &lines, &finding.answer)?;
+    if finding.lacks_handlers() {
+        out.write_all(NO_HANDLERS.as_bytes())?;
+    }
     if finding.listing.is_some() {
         out.write_all(b"<pre>")?;
         for line in lines.text.split_inclusive(|byte| *byte == b'\n') {
@@ -157,6 +164,9 @@ fn put_function(
     }
     out.write_all(b"</details>\n")
 }
+
+const NO_HANDLERS: &str =
+    "<p>It has no handlers.bin: walks enter no exception handler of it.</p>\n";
 
 /// What is found, in words.
 fn put_words(out: &mut impl Write, lines: &Lines, answer: &Answer) -> io::Result<()> {
@@ -198,6 +208,8 @@ fn meaning(number: u8) -> &'static str {
         16 => "The switch at that place has fewer than 0 or more than 4,096 entries",
         17 => "The listing is longer than there is room for",
         19 => "The code has a length, and no run holds it",
+        24 => "handlers.bin is not whole records, or has more than 4,096",
+        25 => "In the handler record of that number the start is not below the end, or the end is beyond the code",
         _ => "No reason is known",
     }
 }
@@ -213,6 +225,8 @@ struct Lines<'a> {
     text: &'a [u8],
     places: Vec<u8>,
     from: Option<usize>,
+    /// Without an answer to the walks nothing is known of what they reach.
+    walked: bool,
 }
 
 impl<'a> Lines<'a> {
@@ -222,7 +236,9 @@ impl<'a> Lines<'a> {
             Answer::Leaves { from, .. } => Some(from),
             _ => None,
         };
-        let mut lines = Lines { function, text: checker.text(), places: vec![0; code], from };
+        let walked = matches!(finding.answer, Answer::Closed | Answer::Leaves { .. });
+        let (text, places) = (checker.text(), vec![0; code]);
+        let mut lines = Lines { function, text, places, from, walked };
         for line in lines.text.split(|byte| *byte == b'\n') {
             let Some((offset, text)) = instruction(line) else { continue };
             let reached = checker.marks().get(offset).is_some_and(|mark| *mark != 0);
@@ -259,6 +275,7 @@ impl<'a> Lines<'a> {
         let class = match (leaves, reached, self.from) {
             (true, ..) => " class=x",
             (_, true, _) => "",
+            _ if !self.walked => "",
             // Longer walks may reach it.
             (.., Some(_)) => " class=v",
             (.., None) => " class=u",

@@ -37,7 +37,6 @@ struct Job {
 struct Told {
     number: usize,
     finding: Finding,
-    has_handlers: bool,
     written: Result<(), String>,
     fragment: Option<Result<Fragment, String>>,
 }
@@ -56,6 +55,10 @@ pub fn run(arguments: Arguments) -> Result<bool, String> {
         tally.put_page(&job, page);
     }
     tell_left(&job, &mut tally);
+    if tally.without_handlers > 0 {
+        let count = tally.without_handlers;
+        tell(&format!("{count} functions have no handlers.bin: their walks enter no handler"));
+    }
     tell(&tally.summary(started.elapsed()));
     match tally.failures {
         0 => Ok(tally.count(Kind::Closed) == job.names.len()),
@@ -124,8 +127,7 @@ fn work(job: &Job, thread: usize, sender: &SyncSender<Told>) {
             let put = page.put(thread, number, name.as_bytes(), &finding, &checker);
             put.map_err(|e| output::cannot("write", page.file(), &e))
         });
-        let has_handlers = checker.store.has_handlers;
-        if sender.send(Told { number, finding, has_handlers, written, fragment }).is_err() {
+        if sender.send(Told { number, finding, written, fragment }).is_err() {
             return;
         }
     }
@@ -141,7 +143,7 @@ struct Tally {
     done: usize,
     counts: [usize; KINDS.len()],
     fragments: Vec<(Kind, usize, Fragment)>,
-    handlers: usize,
+    without_handlers: usize,
     failures: usize,
 }
 
@@ -178,12 +180,7 @@ impl Tally {
         let kind = told.finding.kind();
         self.done += 1;
         self.counts[kind as usize] += 1;
-        if told.has_handlers {
-            if self.handlers == 0 {
-                tell("handlers.bin is not used yet: walks do not enter exception handlers");
-            }
-            self.handlers += 1;
-        }
+        self.without_handlers += usize::from(told.finding.lacks_handlers());
         self.test(told.written);
         match told.fragment {
             Some(Ok(fragment)) => self.fragments.push((kind, told.number, fragment)),

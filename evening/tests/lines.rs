@@ -47,13 +47,13 @@ fn lines_of_json() {
     let path = from.join("missing/objects.bin");
     let why = format!("{}: No such file or directory", path.display());
     let lines = [
-        r#"{"name":"cut","answer":"refused","steps":null,"from":null,"refusal":{"number":14,"place":1},"unreadable":null,"listing":null,"code":null,"instructions":null}"#.to_string(),
-        r#"{"name":"jumps","answer":"leaves","steps":1,"from":0,"refusal":null,"unreadable":null,"listing":163,"code":2,"instructions":1}"#.into(),
-        r#"{"name":"left or right","answer":"closed","steps":null,"from":null,"refusal":null,"unreadable":null,"listing":215,"code":3,"instructions":2}"#.into(),
-        format!(r#"{{"name":"missing","answer":"unreadable","steps":null,"from":null,"refusal":null,"unreadable":"{why}","listing":null,"code":null,"instructions":null}}"#),
-        r#"{"name":"sample","answer":"closed","steps":null,"from":null,"refusal":null,"unreadable":null,"listing":247,"code":5,"instructions":3}"#.into(),
-        r#"{"name":"say \"hi\"\u000a\\","answer":"closed","steps":null,"from":null,"refusal":null,"unreadable":null,"listing":247,"code":5,"instructions":3}"#.into(),
-        "{\"name\":\"\u{fffd}\",\"name_bytes\":\"ff\",\"answer\":\"closed\",\"steps\":null,\"from\":null,\"refusal\":null,\"unreadable\":null,\"listing\":247,\"code\":5,\"instructions\":3}".into(),
+        r#"{"name":"cut","answer":"refused","steps":null,"from":null,"refusal":{"number":14,"place":1},"unreadable":null,"listing":null,"code":null,"instructions":null,"handlers":null}"#.to_string(),
+        r#"{"name":"jumps","answer":"leaves","steps":1,"from":0,"refusal":null,"unreadable":null,"listing":163,"code":2,"instructions":1,"handlers":0}"#.into(),
+        r#"{"name":"left or right","answer":"closed","steps":null,"from":null,"refusal":null,"unreadable":null,"listing":215,"code":3,"instructions":2,"handlers":0}"#.into(),
+        format!(r#"{{"name":"missing","answer":"unreadable","steps":null,"from":null,"refusal":null,"unreadable":"{why}","listing":null,"code":null,"instructions":null,"handlers":null}}"#),
+        r#"{"name":"sample","answer":"closed","steps":null,"from":null,"refusal":null,"unreadable":null,"listing":247,"code":5,"instructions":3,"handlers":0}"#.into(),
+        r#"{"name":"say \"hi\"\u000a\\","answer":"closed","steps":null,"from":null,"refusal":null,"unreadable":null,"listing":247,"code":5,"instructions":3,"handlers":0}"#.into(),
+        "{\"name\":\"\u{fffd}\",\"name_bytes\":\"ff\",\"answer\":\"closed\",\"steps\":null,\"from\":null,\"refusal\":null,\"unreadable\":null,\"listing\":247,\"code\":5,\"instructions\":3,\"handlers\":0}".into(),
     ];
     assert_eq!(status, 1);
     assert_eq!(out.lines().collect::<Vec<_>>(), lines);
@@ -70,7 +70,7 @@ fn all_closed() {
     assert_eq!((status, out.as_str()), (0, "sample closed\n"));
 }
 
-/// What the gate runs the two programs on: the walk's answer stands in its recorded output.
+/// What the gate runs the two programs on, the walk with its handler: its answer stands in its recorded output.
 #[test]
 fn the_programs_own_functions() {
     let input = input("programs");
@@ -82,6 +82,9 @@ fn the_programs_own_functions() {
             &STORE.map(|file| std::fs::read(data.join(file)).unwrap()),
         );
     }
+    let handlers = "handlers.bin";
+    std::fs::copy(crates("jscd_walk/data").join(handlers), input.join("jscd_walk").join(handlers))
+        .unwrap();
     let answer = std::fs::read_to_string(crates("jscd_walk/stdout")).unwrap();
     let (_, out, _) = call(both(&input));
     assert_eq!(out, format!("jscd_list closed\njscd_walk {answer}"));
@@ -152,17 +155,4 @@ fn a_table_that_is_refused() {
     std::fs::write(input.join("table/layout.bin"), "short").unwrap();
     let (status, out, _) = call(both(&input));
     assert_eq!((status, out.as_str()), (1, "sample refused 1 at 0\n"));
-}
-
-/// Handlers are not lent yet, which is told once.
-#[test]
-fn handlers() {
-    let input = input("handlers");
-    for name in ["a", "b"] {
-        std::fs::write(put(&input, name, SAMPLE).join("handlers.bin"), "").unwrap();
-    }
-    let (status, out, errors) = call(both(&input));
-    assert_eq!((status, out.as_str()), (0, "a closed\nb closed\n"));
-    let told = "batch: handlers.bin is not used yet: walks do not enter exception handlers\n";
-    assert!(errors.starts_with(told) && errors.matches("handlers").count() == 2, "{errors}");
 }

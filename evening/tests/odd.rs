@@ -133,7 +133,7 @@ fn output_in_the_input() {
     let page = ["in", "out", "--html", "in/sample/payload.bin"];
     let (status, _, errors) = said(batch().current_dir(folder).args(page).output().unwrap());
     assert!(status == 2 && errors.contains("lies in in"), "{errors}");
-    assert_eq!((names(&input), names(&input.join("sample")).len()), (before, 3));
+    assert_eq!((names(&input), names(&input.join("sample")).len()), (before, 4));
     // The other way round is no harm.
     let run = batch().current_dir(folder).args(["in", "."]).output().unwrap();
     assert_eq!(said(run).0, 0);

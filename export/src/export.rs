@@ -1,8 +1,8 @@
 //! Document 01's record files of a function, from a `VersionTable` and a `CodeCache`.
 //!
 //! This file goes into jscd's `src/` as it is (README.md says how): it needs `tables`, `serializer` and `disasm` and uses what they make
-//! public. `table` makes the five table files, `function` the three store files of one function, `all` both for every function of a cache,
-//! `write_all` a folder of them. `handlers` makes handler records, which no file holds yet.
+//! public. `table` makes the five table files, `function` the three store files of one function, `handlers` its handler records, `all` these for
+//! every function of a cache, `write_all` a folder of them.
 //!
 //! What the records cannot hold is an error that names it; nothing is written then.
 
@@ -15,11 +15,16 @@ use std::path::Path;
 pub const TABLE_FILES: [&str; 5] =
     ["opcodes.bin", "types.bin", "runtime.bin", "intrinsic.bin", "layout.bin"];
 pub const STORE_FILES: [&str; 3] = ["objects.bin", "slots.bin", "payload.bin"];
+/// The file of a function's handler records, beside those of its store.
+pub const HANDLERS_FILE: &str = "handlers.bin";
 
 /// The programs read files of up to so many bytes.
 pub const MOST_FILE: usize = 65_536;
 const MOST_INDEX: usize = 1_048_576;
 const MOST_OPERANDS: usize = 8;
+const MOST_CODE: usize = 65_536;
+/// The walk check takes up to so many handler records.
+const MOST_HANDLERS: usize = 4_096;
 const ABSENT: u32 = u32::MAX;
 
 /// The names of type records 0 to 16.
@@ -376,56 +381,127 @@ impl Store<'_, '_> {
 
 // ---- handlers ----
 
-/// Handler records of a function, 12 bytes each: start, end, handler offset. Document 01 has no file for them; they are what the walk check
-/// is to be lent once handlers are steps. An entry whose start is its end holds no instruction and is left out.
+/// Handler records as the walk check is lent them, 12 bytes each: start, end, handler offset.
+#[derive(Debug, Clone, Default, PartialEq, Eq)]
+pub struct Handlers {
+    pub records: Vec<u8>,
+    /// Entries that have no record: their start is their end, so that no offset lies in them, and number 25 would refuse them.
+    pub empty: usize,
+}
+
+impl Handlers {
+    /// How many records there are.
+    pub fn count(&self) -> usize {
+        self.records.len() / HANDLER_RECORD
+    }
+}
+
+/// Bytes of a handler record, and of an entry in V8's table: start, end, handler offset above the prediction, data.
+const HANDLER_RECORD: usize = 12;
+const HANDLER_ENTRY: usize = 16;
+
+/// The handler records of a function, in the order of V8's table, whose last entry that holds an offset is the one that counts.
 pub fn handlers(
     cache: &CodeCache,
     table: &VersionTable,
     bytecode_array: ObjId,
-) -> Result<Vec<u8>, String> {
-    let layout = crate::bytecode::FamilyLayout::from_table(table);
-    let slot = Disassembler::new(cache, table, layout).bca_handler_table_slot();
-    // A root is the empty table.
-    let Some(SlotValue::Ref(Ref::Object(id))) = cache.slot_at(bytecode_array, slot) else {
-        return Ok(Vec::new());
+) -> Result<Handlers, String> {
+    let Some(id) = handler_table(cache, table, bytecode_array)? else {
+        return Ok(Handlers::default());
     };
-    let bytes = byte_array(cache, *id)?;
-    if bytes.len() % HANDLER != 0 {
-        return Err(format!("the handler table, object {id}, has {} bytes", bytes.len()));
+    let shift = prediction_bits(table)?;
+    let bytes = byte_array(cache, table, id)?;
+    if bytes.len() % HANDLER_ENTRY != 0 {
+        let length = bytes.len();
+        return Err(format!(
+            "the handler table, object {id}, has {length} bytes: no whole entries"
+        ));
     }
-    let shift = handler_shift(table)?;
-    let mut out = Vec::new();
-    for entry in bytes.chunks_exact(HANDLER) {
+    let code = code_length(cache, table, bytecode_array);
+    let mut out = Handlers::default();
+    for (k, entry) in bytes.chunks_exact(HANDLER_ENTRY).enumerate() {
         let word = |k: usize| u32::from_le_bytes([0, 1, 2, 3].map(|b| entry[4 * k + b]));
-        if word(0) != word(1) {
-            out.extend([word(0), word(1), word(2) >> shift].iter().flat_map(|w| w.to_le_bytes()));
+        let (start, end, handler) = (word(0), word(1), word(2) >> shift);
+        if start > end || end as usize > code {
+            return Err(format!("handler {k} is from {start} to {end}, in {code} bytes of code"));
+        }
+        match start == end {
+            true => out.empty += 1,
+            false => out.records.extend([start, end, handler].iter().flat_map(|w| w.to_le_bytes())),
         }
     }
-    Ok(out)
-}
-
-/// Bytes of an entry in V8's table: start, end, handler with its prediction, data.
-const HANDLER: usize = 16;
-
-/// The handler's offset stands above the prediction: three bits up to V8 11.
-fn handler_shift(table: &VersionTable) -> Result<u32, String> {
-    match table.v8.split('.').next().and_then(|major| major.parse::<u32>().ok()) {
-        Some(0..=11) => Ok(3),
-        _ => Err(format!("how V8 {} writes a handler's offset is not known here", table.v8)),
+    match out.count() > MOST_HANDLERS {
+        true => Err(format!("{} handlers, more than {MOST_HANDLERS}", out.count())),
+        false => Ok(out),
     }
 }
 
-/// What a ByteArray holds: its length is a small integer behind the map, its bytes follow.
-fn byte_array<'c>(cache: &CodeCache<'c>, id: ObjId) -> Result<&'c [u8], String> {
+/// The object that holds a function's handler table; None where that is the root of the empty one.
+fn handler_table(
+    cache: &CodeCache,
+    table: &VersionTable,
+    bytecode_array: ObjId,
+) -> Result<Option<ObjId>, String> {
+    let layout = crate::bytecode::FamilyLayout::from_table(table);
+    let slot = Disassembler::new(cache, table, layout).bca_handler_table_slot();
+    // Equal roots in a row are one repeat: the source positions, which follow, may be the same empty array.
+    let value = match cache.unit_at(bytecode_array, slot * cache.tagged_size()) {
+        Some(SlotValue::Repeat(_, inner)) => inner.as_ref().as_ref(),
+        value => value.and_then(|v| v.as_ref()),
+    };
+    match value {
+        Some(Ref::Object(id)) if id < cache.objects.len() => Ok(Some(id)),
+        // No root has entries. Which one is the empty table is known of the same versions as the entries.
+        Some(Ref::Root(_)) if prediction_bits(table).is_err() => Ok(None),
+        Some(Ref::Root(number)) => match table.root_name(number).unwrap_or("without a name") {
+            "EmptyByteArray" => Ok(None),
+            name => Err(format!("the handler table is root {number} ({name}), no empty ByteArray")),
+        },
+        _ => Err(format!("slot {slot} of object {bytecode_array} holds no handler table")),
+    }
+}
+
+/// So many low bits of an entry's third word are V8's prediction of what happens to the exception. Known are the versions whose entries were
+/// compared with what V8 prints of them.
+fn prediction_bits(table: &VersionTable) -> Result<u32, String> {
+    let mut numbers = table.v8.split('.');
+    match (numbers.next(), numbers.next()) {
+        (Some("10"), Some("2")) | (Some("11"), Some("3")) => Ok(3),
+        _ => Err(format!("how V8 {} writes a handler table is not known here", table.v8)),
+    }
+}
+
+/// What a ByteArray holds. It has one run behind its map: its length, a small integer, and its bytes.
+fn byte_array<'c>(
+    cache: &CodeCache<'c>,
+    table: &VersionTable,
+    id: ObjId,
+) -> Result<&'c [u8], String> {
+    if !cache.obj(id).ty.is(table, "ByteArray") {
+        return Err(format!("the handler table, object {id}, is no ByteArray"));
+    }
+    let Some(SlotValue::Raw(Raw { off, len, .. })) = cache.slot_at(id, 1) else {
+        return Err(format!("the handler table, object {id}, has no run behind its map"));
+    };
     let ts = cache.tagged_size();
-    let length = cache.raw_at(id, ts, ts).and_then(crate::serializer::decode_smi_bytes);
-    let length = length.and_then(|length| usize::try_from(length).ok());
-    match length {
-        Some(0) => Some(&[][..]),
-        Some(length) => cache.raw_at(id, 2 * ts, length),
-        None => None,
-    }
-    .ok_or_else(|| format!("object {id} holds no bytes of its length"))
+    let held = || {
+        let run = cache.payload().get(*off..off.checked_add(*len)?)?;
+        let length = crate::serializer::decode_smi_bytes(run.get(..ts)?)?;
+        run.get(ts..)?.get(..usize::try_from(length).ok()?)
+    };
+    held().ok_or_else(|| format!("the handler table, object {id}, has no run of its length"))
+}
+
+/// The length of the code that `render_sfi` finds: 0 where no run holds it.
+fn code_length(cache: &CodeCache, table: &VersionTable, id: ObjId) -> usize {
+    let ts = cache.tagged_size();
+    let array = table.bytecode_array.clone();
+    let array = array.unwrap_or_else(|| BytecodeArrayLayout::fallback(ts));
+    let at = |offset: usize| cache.bca_rt_off(table, ts, id, offset);
+    let length = cache.raw_at(id, array.off("length").map_or(ts, at), ts);
+    let length = length.and_then(crate::serializer::decode_smi_bytes);
+    let length = length.and_then(|n| usize::try_from(n).ok()).filter(|n| *n <= MOST_CODE);
+    length.filter(|n| cache.raw_at(id, at(array.header_size), *n).is_some()).unwrap_or(0)
 }
 
 // ---- all functions ----
@@ -450,11 +526,18 @@ fn shared<'a>(cache: &'a CodeCache, table: &'a VersionTable) -> impl Iterator<It
     (0..cache.objects.len()).filter(|id| cache.obj(*id).ty.is(table, "SharedFunctionInfo"))
 }
 
-/// The files of a cache: those of the table, those of each function with the name of its folder, the functions left out with the reason, and how
-/// many there are that V8 had not compiled.
+/// The files of a function, and the name of its folder.
+pub struct Function {
+    pub folder: String,
+    pub store: [Vec<u8>; 3],
+    pub handlers: Handlers,
+}
+
+/// The files of a cache: those of the table, those of each function, the functions left out with the reason, and how many there are that V8 had
+/// not compiled.
 pub struct All {
     pub table: [Vec<u8>; 5],
-    pub functions: Vec<(String, [Vec<u8>; 3])>,
+    pub functions: Vec<Function>,
     pub refused: Vec<(String, String)>,
     pub without: usize,
 }
@@ -471,8 +554,9 @@ pub fn all(
         All { table: self::table(table)?, functions: Vec::new(), refused: Vec::new(), without };
     for (id, bytecode_array) in found {
         let folder = folder_name(id, &name_of(id));
-        match function(cache, table, bytecode_array) {
-            Ok(files) => all.functions.push((folder, files)),
+        let store = function(cache, table, bytecode_array);
+        match store.and_then(|store| Ok((store, handlers(cache, table, bytecode_array)?))) {
+            Ok((store, handlers)) => all.functions.push(Function { folder, store, handlers }),
             Err(message) => all.refused.push((folder, message)),
         }
     }
@@ -482,19 +566,29 @@ pub fn all(
 impl All {
     /// Writes `out/table` and a folder for each function, `prefix` before its name.
     pub fn write(&self, out: &Path, prefix: &str) -> Result<(), String> {
-        put(&out.join("table"), &TABLE_FILES, &self.table)?;
-        for (folder, files) in &self.functions {
-            put(&out.join(format!("{prefix}{folder}")), &STORE_FILES, files)?;
+        put(&out.join("table"), TABLE_FILES.into_iter().zip(&self.table))?;
+        for Function { folder, store, handlers } in &self.functions {
+            let handlers = (HANDLERS_FILE, &handlers.records);
+            let files = STORE_FILES.into_iter().zip(store).chain([handlers]);
+            put(&out.join(format!("{prefix}{folder}")), files)?;
         }
         Ok(())
     }
+
+    /// How many handler records the functions have, and how many entries of V8's tables have none.
+    pub fn handlers(&self) -> (usize, usize) {
+        let all = || self.functions.iter().map(|function| &function.handlers);
+        (all().map(Handlers::count).sum(), all().map(|handlers| handlers.empty).sum())
+    }
 }
 
-/// What `write_all` did: the folders written, and those left out with the reason.
+/// What `write_all` did: the folders written, those left out with the reason, the handler records, and the entries that have none.
 #[derive(Debug, Default)]
 pub struct Written {
     pub functions: Vec<String>,
     pub refused: Vec<(String, String)>,
+    pub handlers: usize,
+    pub empty_handlers: usize,
 }
 
 /// Writes `out/table` and a folder for each function, `out/NUMBER-NAME`. All files are made before the first is written.
@@ -506,8 +600,9 @@ pub fn write_all(
 ) -> Result<Written, String> {
     let all = all(cache, table, name_of)?;
     all.write(out, "")?;
-    let functions = all.functions.into_iter().map(|(folder, _)| folder).collect();
-    Ok(Written { functions, refused: all.refused })
+    let (handlers, empty_handlers) = all.handlers();
+    let functions = all.functions.into_iter().map(|function| function.folder).collect();
+    Ok(Written { functions, refused: all.refused, handlers, empty_handlers })
 }
 
 /// The object's number, so that no two are the same, and what of the name a file name can hold.
@@ -520,10 +615,13 @@ fn folder_name(id: ObjId, name: &str) -> String {
     }
 }
 
-fn put(folder: &Path, names: &[&str], files: &[Vec<u8>]) -> Result<(), String> {
+fn put<'a>(
+    folder: &Path,
+    files: impl IntoIterator<Item = (&'a str, &'a Vec<u8>)>,
+) -> Result<(), String> {
     let fail = |path: &Path, e: std::io::Error| format!("{}: {e}", path.display());
     std::fs::create_dir_all(folder).map_err(|e| fail(folder, e))?;
-    for (name, body) in names.iter().zip(files) {
+    for (name, body) in files {
         let path = folder.join(name);
         std::fs::write(&path, body).map_err(|e| fail(&path, e))?;
     }

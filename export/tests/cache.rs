@@ -3,8 +3,6 @@
 //! data/node18.jsc and data/node20.jsc are caches of data/small.js, made by make.js with nodes of these versions.
 
 use jscd_export::cache::{self, checksum};
-use jscd_export::export;
-use jscd_export::serializer;
 use jscd_export::version;
 use oracle::ask::{ask, Call, LISTING, WALK};
 use oracle::checks;
@@ -139,7 +137,7 @@ fn what_is_written() {
     assert_eq!(said.stderr, b"");
     let line = text(&said.stdout);
     let flags = u32::from_le_bytes(NODE_20[12..16].try_into().unwrap());
-    let rest = format!("0.jsc: 6 functions; V8 11.3.244.8 (node 20), flags {flags:#010x}, source of 517 characters\n");
+    let rest = format!("0.jsc: 6 functions, 2 handlers; V8 11.3.244.8 (node 20), flags {flags:#010x}, source of 517 characters\n");
     assert!(line.ends_with(&rest), "{line}");
     let mut names: Vec<String> = std::fs::read_dir(folder.join("out"))
         .unwrap()
@@ -166,14 +164,14 @@ fn what_is_written() {
 /// The files of each function of a cache, with the table's.
 fn functions(data: &[u8]) -> Vec<(String, Files)> {
     let all = cache::read(data).ok().unwrap().all;
-    let with_table = |store: [Vec<u8>; 3]| {
+    let with_table = |store: &[Vec<u8>; 3]| {
         let mut files = Files::default();
-        for (body, file) in files.body.iter_mut().zip(all.table.iter().chain(&store)) {
+        for (body, file) in files.body.iter_mut().zip(all.table.iter().chain(store)) {
             *body = file.clone();
         }
         files
     };
-    all.functions.iter().map(|(name, store)| (name.clone(), with_table(store.clone()))).collect()
+    all.functions.iter().map(|f| (f.folder.clone(), with_table(&f.store))).collect()
 }
 
 /// What is exported passes the checks, and lists and walks; the listing program says what the Rust says.
@@ -216,24 +214,6 @@ fn table_files() {
     }
 }
 
-/// Handler records as V8 prints its handler tables: start, end, handler.
-#[test]
-fn handlers() {
-    for data in [NODE_18, NODE_20] {
-        let (header, found) = cache::checked(data).ok().unwrap();
-        let cache = serializer::parse(header.payload(data), &found.table).unwrap();
-        let mut records: Vec<Vec<[u32; 3]>> = Vec::new();
-        for (_, bytecode_array) in export::functions(&cache, &found.table) {
-            let bytes = export::handlers(&cache, &found.table, bytecode_array).unwrap();
-            let word = |b: &[u8]| u32::from_le_bytes(b.try_into().unwrap());
-            let record = |b: &[u8]| [word(&b[..4]), word(&b[4..8]), word(&b[8..])];
-            records.push(bytes.chunks(12).map(record).collect());
-        }
-        let guarded = vec![[3, 48, 48], [6, 22, 22]];
-        assert_eq!(records, [vec![], vec![], guarded, vec![], vec![], vec![]]);
-    }
-}
-
 /// A number as V8's serializer writes it.
 fn number(value: usize) -> Vec<u8> {
     let bytes = [1, 2, 3, 4].into_iter().find(|n| value < 1 << (8 * n - 2)).unwrap();
@@ -248,12 +228,13 @@ fn made_up(code: Option<usize>) -> Vec<u8> {
         [vec![6], number(at)].concat()
     };
     let undefined = root("UndefinedValue");
+    // Pool, handler table, source positions.
+    let fields = [undefined.clone(), root("EmptyByteArray"), undefined.clone()].concat();
     let bytecode = |code: usize| {
         let size = (54 + code).next_multiple_of(8);
         let head = [vec![0], number(size / 8), root("BytecodeArrayMap"), vec![0x60]].concat();
-        let roots = undefined.repeat(3);
         let rest = [vec![16], number(size / 8 - 5), vec![0; size - 40]].concat();
-        [head, (code << 32).to_le_bytes().to_vec(), roots, rest].concat()
+        [head, (code << 32).to_le_bytes().to_vec(), fields.clone(), rest].concat()
     };
     let shared = |data: Vec<u8>, last: Vec<u8>| {
         let head = [vec![0], number(7), root("SharedFunctionInfoMap"), data].concat();
@@ -277,6 +258,7 @@ fn functions_without_bytecode() {
     assert_eq!((text(&said.stderr).as_str(), said.status.code()), ("", Some(0)));
     assert!(text(&said.stdout).contains("0.jsc: 1 functions, 1 not compiled; V8 11.3.244.8"));
     assert!(folder.join("out/000000/objects.bin").exists());
+    assert_eq!(std::fs::read(folder.join("out/000000/handlers.bin")).unwrap(), b"");
 }
 
 /// A function that the records cannot hold is left out and told; the others are written.

@@ -1,12 +1,14 @@
 //! Damaged caches: every byte of a small cache changed in turn, random bytes changed, and random cuts. The export never stops and never takes
-//! long; what it still writes passes the checks of rows 1 to 8, and the programs list and walk it or refuse it by number, as the oracle does.
+//! long; what it still writes passes the checks of rows 1 to 8, its handler records pass 24 and 25, and the programs list and walk it or refuse it by
+//! number, as the oracle does.
 
 use jscd_export::cache;
+use jscd_export::export::Function;
 use oracle::ask::{ask, Call, LISTING, WALK};
 use oracle::checks;
-use oracle::port::TABLE;
+use oracle::port::{Port, STORE, TABLE};
 use oracle::random::Random;
-use oracle::records::{Files, NAMES};
+use oracle::records::{u32_at, Files, NAMES};
 use std::collections::{BTreeMap, BTreeSet};
 use std::path::{Path, PathBuf};
 use std::process::Command;
@@ -14,6 +16,9 @@ use std::sync::mpsc;
 use std::time::Duration;
 
 const CACHES: [&[u8]; 2] = [include_bytes!("data/node18.jsc"), include_bytes!("data/node20.jsc")];
+/// Caches with many handler tables.
+const HANDLERS: [&[u8]; 2] =
+    [include_bytes!("data/handlers18.jsc"), include_bytes!("data/handlers20.jsc")];
 const HEADER: usize = 24;
 const PAYLOAD_LENGTH: usize = 16;
 const CHECKSUM: usize = 20;
@@ -28,8 +33,11 @@ struct Seen {
     said: BTreeMap<String, usize>,
     left_out: usize,
     asked: usize,
-    /// Functions that were looked at already.
-    functions: BTreeSet<[Vec<u8>; 3]>,
+    /// Handler records of functions that were looked at, and functions left out for their handlers.
+    handlers: usize,
+    bad_handlers: usize,
+    /// Functions that were looked at already: their files and handlers.
+    functions: BTreeSet<([Vec<u8>; 3], Vec<u8>)>,
     folder: PathBuf,
 }
 
@@ -59,10 +67,15 @@ impl Seen {
             }
             Ok(cache) => {
                 self.written += 1;
-                self.left_out += cache.all.refused.len();
-                for (_, store) in &cache.all.functions {
-                    if self.functions.insert(store.clone()) {
-                        self.function(&cache.all.table, store);
+                let refused = &cache.all.refused;
+                self.left_out += refused.len();
+                self.bad_handlers +=
+                    refused.iter().filter(|(_, why)| why.contains("handler")).count();
+                for function in &cache.all.functions {
+                    let Function { store, handlers, .. } = function;
+                    if self.functions.insert((store.clone(), handlers.records.clone())) {
+                        self.handlers += handlers.count();
+                        self.function(&cache.all.table, function);
                     }
                 }
             }
@@ -70,14 +83,15 @@ impl Seen {
     }
 
     /// A function passes the checks, and is listed or refused; one in ten is asked of the programs too.
-    fn function(&mut self, table: &[Vec<u8>; 5], store: &[Vec<u8>; 3]) {
+    fn function(&mut self, table: &[Vec<u8>; 5], function: &Function) {
         let mut files = Files::default();
-        for (body, file) in files.body.iter_mut().zip(table.iter().chain(store)) {
+        for (body, file) in files.body.iter_mut().zip(table.iter().chain(&function.store)) {
             *body = file.clone();
         }
         assert_eq!(checks::table(&files, TABLE), Ok(()));
         assert_eq!(checks::store(&files, checks::PROGRAM_FILE), Ok(()));
         assert_eq!(checks::function(&files, 0), Ok(0));
+        handler_checks(&files, &function.handlers.records);
         let listing = ask(&files, &[], &Call::new(LISTING, &[])).unwrap().to_string();
         let kind = match listing.starts_with("refused") {
             true => listing.split(" at").next().unwrap(),
@@ -106,6 +120,19 @@ impl Seen {
         println!("{} written, refused {:?}", self.written, self.refused);
         let (left, asked) = (self.left_out, self.asked);
         println!("  functions {:?}, {left} left out, {asked} asked of the programs", self.said);
+        println!("  {} handlers, {} left out for theirs", self.handlers, self.bad_handlers);
+    }
+}
+
+/// Numbers 24 and 25: whole records, up to 4,096, each start below its end, and no end beyond the code.
+fn handler_checks(files: &Files, records: &[u8]) {
+    assert!(records.len() % 12 == 0 && records.len() <= 4_096 * 12);
+    let port = Port::new(files, TABLE | STORE).unwrap();
+    let good = (0..=65_536).contains(&port.code_length(0));
+    let code = if good { port.code(0).len() } else { 0 };
+    for record in records.chunks(12) {
+        let (start, end) = (u32_at(record, 0), u32_at(record, 4));
+        assert!(start < end && end as usize <= code, "{start} to {end} in {code}");
     }
 }
 
@@ -171,6 +198,23 @@ fn random_bytes() {
     }
     seen.report();
     assert!(seen.written > 300 && seen.refused.values().sum::<usize>() > 2_000);
+}
+
+/// The same in caches with many handler tables, so that these are hit.
+#[test]
+fn random_bytes_of_handlers() {
+    let mut seen = Seen::in_folder("handlers");
+    let mut r = Random::new(18);
+    for k in 0..4_000 {
+        let mut data = unsummed(HANDLERS[k % 2]);
+        for _ in 0..1 + r.below(3) {
+            let at = HEADER + r.below((data.len() - HEADER) as u64) as usize;
+            data[at] = r.next() as u8;
+        }
+        seen.cache(data);
+    }
+    seen.report();
+    assert!(seen.written > 1_000 && seen.handlers > 1_000 && seen.bad_handlers > 50);
 }
 
 /// Cuts: refused by the length in the header; and where the header says the length that is left, by the parser.

@@ -4,7 +4,7 @@
 //! Rust reads them alike.
 
 use jscd_export::export;
-use jscd_export::serializer::{CodeCache, Ref, SlotValue};
+use jscd_export::serializer::{CodeCache, Ref, Slot, SlotValue};
 use oracle::ask::{ask, Call, LISTING};
 use oracle::port::{Port, STORE, TABLE};
 use oracle::random::Random;
@@ -68,14 +68,30 @@ fn same(files: &Files, name: &str, change: impl FnOnce(&mut CodeCache)) -> Strin
         assert_eq!(rust_listing(&port), said, "the change is read");
     }
     let folder = folder(name);
-    let written = export::write_all(&port.cache, &port.table, |_| "f".into(), &folder).unwrap();
-    assert_eq!(written.refused, []);
-    let [function] = &written.functions[..] else { panic!("{written:?}") };
-    let exported = exported_files(&folder, function);
+    write(&port, &folder);
+    let exported = exported_files(&folder, FUNCTION);
     assert_eq!(checks::table(&exported, TABLE), Ok(()));
     assert_eq!(checks::store(&exported, checks::PROGRAM_FILE), Ok(()));
-    assert_eq!(listed(&folder, function), said);
+    assert_eq!(listed(&folder, FUNCTION), said);
     said
+}
+
+/// The folder of a function that `write` wrote.
+const FUNCTION: &str = "f";
+
+/// The table's files and those of object 0. Its handlers are left out: what stands in the place of their table may be anything here.
+fn write(port: &Port, folder: &Path) {
+    let table = export::table(&port.table).unwrap();
+    let store = export::function(&port.cache, &port.table, 0).unwrap();
+    put(&folder.join("table"), &export::TABLE_FILES, &table);
+    put(&folder.join(FUNCTION), &export::STORE_FILES, &store);
+}
+
+fn put(folder: &Path, names: &[&str], bodies: &[Vec<u8>]) {
+    std::fs::create_dir_all(folder).unwrap();
+    for (name, body) in names.iter().zip(bodies) {
+        std::fs::write(folder.join(name), body).unwrap();
+    }
 }
 
 #[test]
@@ -206,8 +222,8 @@ fn a_weak_element_is_passed_over() {
     let first = slots.iter_mut().find(|s| s.index == 2).unwrap();
     first.value = SlotValue::WeakRef(Box::new(SlotValue::Ref(Ref::Root(1))));
     let folder = folder("element");
-    let written = export::write_all(&port.cache, &port.table, |_| "f".into(), &folder).unwrap();
-    let said = listed(&folder, &written.functions[0]);
+    write(&port, &folder);
+    let said = listed(&folder, FUNCTION);
     assert_eq!(said, rust_listing(&port));
     assert!(said.contains("{ 6: @4 }"), "{said}");
 }
@@ -231,8 +247,8 @@ fn fallbacks_are_written_out() {
         port.table.frame = None;
         port.table.parameter_count = None;
         let folder = folder(&format!("fallback{tagged_size}"));
-        let written = export::write_all(&port.cache, &port.table, |_| "".into(), &folder).unwrap();
-        assert_eq!(listed(&folder, &written.functions[0]), own_listing(&port));
+        write(&port, &folder);
+        assert_eq!(listed(&folder, FUNCTION), own_listing(&port));
     }
 }
 
@@ -241,6 +257,9 @@ fn fallbacks_are_written_out() {
 fn every_function_has_a_folder() {
     let files = sample::sample();
     let mut port = Port::new(&files, TABLE | STORE).unwrap();
+    // The sample has a run in the place of the handler table.
+    let none = Slot { index: 3, value: SlotValue::Ref(Ref::Root(0)) };
+    port.cache.objects[0].slots.push(none);
     let again = port.cache.objects[port.shared_function_info()].clone();
     port.cache.objects.push(again);
     let mut without = port.cache.objects[port.shared_function_info()].clone();
@@ -252,5 +271,7 @@ fn every_function_has_a_folder() {
     assert_eq!(written.functions, ["000001-abc", "000003"]);
     for function in &written.functions {
         assert_eq!(listed(&folder, function), sample::LISTING);
+        assert_eq!(std::fs::read(folder.join(function).join(export::HANDLERS_FILE)).unwrap(), b"");
     }
+    assert_eq!((written.refused.len(), written.handlers, written.empty_handlers), (0, 0, 0));
 }

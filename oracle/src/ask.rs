@@ -126,6 +126,7 @@ struct Lent<'a> {
     files: &'a Files,
     port: Port<'a>,
     code: &'a [u8],
+    handlers: &'a [u8],
     call: &'a Call,
 }
 
@@ -163,6 +164,8 @@ pub const HEADER: usize = 23;
 pub const JUMP_ENTRY: usize = 24;
 pub const SLOT_RECORDS: usize = 25;
 pub const WRITE: usize = 26;
+pub const WALK_WITH: usize = 27;
+pub const WALK_CODE_WITH: usize = 28;
 
 /// An instruction's numbers, and the length of the buffer.
 const TO_WRITE: [&str; writes::NUMBERS + 1] = {
@@ -182,7 +185,7 @@ macro_rules! function {
 }
 
 /// By number. New functions go behind.
-pub const FUNCTIONS: [Function; 27] = [
+pub const FUNCTIONS: [Function; 29] = [
     function!("listing", [], TABLE | STORE, listing),
     function!("raw_at", ["object", "offset", "length"], READS, raw_at),
     function!("array_len", ["object"], READS, array_len),
@@ -210,10 +213,13 @@ pub const FUNCTIONS: [Function; 27] = [
     function!("jump_entry", ["object", "start", "entry"], ON_CODE, jump_entry),
     function!("slot_records", [], STORE, slot_records),
     function!("write", TO_WRITE, ON_CODE, write_one),
+    function!("walk_with", ["marks"], TABLE | STORE, walk_with),
+    function!("walk_code_with", ["object", "marks"], ON_CODE, walk_code_with),
 ];
 
 /// Functions whose first argument is the object that lends its pool, or none.
-const POOL_LENT: [usize; 5] = [JUMP_TARGET, JUMP_TABLE, WALK_CODE, WALK_LAST_BYTES, JUMP_ENTRY];
+const POOL_LENT: [usize; 6] =
+    [JUMP_TARGET, JUMP_TABLE, WALK_CODE, WALK_LAST_BYTES, JUMP_ENTRY, WALK_CODE_WITH];
 
 /// The files that a call is lent, as bits.
 pub fn lent(call: &Call) -> u8 {
@@ -227,8 +233,23 @@ pub fn lends_code(call: &Call) -> bool {
         || matches!(call.function, RENDER_OPERAND | INSTRUCTION_TEXT)
 }
 
-/// An error is a call that cannot be asked: wrong arguments, or not comparable.
+/// Whether a call is lent handler records.
+pub fn lends_handlers(call: &Call) -> bool {
+    matches!(call.function, WALK_WITH | WALK_CODE_WITH)
+}
+
+/// A call that is lent no handler records.
 pub fn ask(files: &Files, code: &[u8], call: &Call) -> Result<Answer, String> {
+    ask_with(files, code, &[], call)
+}
+
+/// An error is a call that cannot be asked: wrong arguments, or not comparable.
+pub fn ask_with(
+    files: &Files,
+    code: &[u8],
+    handlers: &[u8],
+    call: &Call,
+) -> Result<Answer, String> {
     let function = FUNCTIONS.get(call.function).ok_or("no such function")?;
     if call.args.len() != function.args.len() {
         return Err(format!("{} takes {}", function.name, function.args.join(", ")));
@@ -242,7 +263,7 @@ pub fn ask(files: &Files, code: &[u8], call: &Call) -> Result<Answer, String> {
     };
     fits(call)?;
     let port = Port::new(files, lent)?;
-    Ok(run(&Lent { files, port, code, call }).unwrap_or_else(Answer::Refused))
+    Ok(run(&Lent { files, port, code, handlers, call }).unwrap_or_else(Answer::Refused))
 }
 
 /// Listing and walk of object 0 are those of the programs, which read files up to a limit.
@@ -250,9 +271,8 @@ fn store_check(files: &Files, lent: u8, call: &Call) -> checks::Check {
     if lent & bit(OBJECTS) == 0 {
         return Ok(());
     }
-    let most =
-        if matches!(call.function, LISTING | WALK) { checks::PROGRAM_FILE } else { usize::MAX };
-    checks::store(files, most)
+    let of_programs = matches!(call.function, LISTING | WALK | WALK_WITH);
+    checks::store(files, if of_programs { checks::PROGRAM_FILE } else { usize::MAX })
 }
 
 /// Arguments that the Rust has in 32 bits or as a truth value.
@@ -513,14 +533,34 @@ fn write_one(lent: &Lent) -> Result<Answer, Refusal> {
 
 /// The walk over the code of object 0.
 fn walk(lent: &Lent) -> Result<Answer, Refusal> {
+    of_object(lent, &[])
+}
+
+/// The same with the lent handler records.
+fn walk_with(lent: &Lent) -> Result<Answer, Refusal> {
+    of_object(lent, lent.handlers)
+}
+
+fn of_object(lent: &Lent, handlers: &[u8]) -> Result<Answer, Refusal> {
     let function = checks::function(lent.files, 0)?;
-    walks::check_object(&lent.port, function, lent.call.args[0]).map(Answer::Walked)
+    let marks = lent.call.args[0];
+    walks::check_object(&lent.port, function, marks, handlers).map(Answer::Walked)
 }
 
 /// The walk over lent code.
 fn walk_code(lent: &Lent) -> Result<Answer, Refusal> {
+    of_code(lent, &[])
+}
+
+/// The same with the lent handler records.
+fn walk_code_with(lent: &Lent) -> Result<Answer, Refusal> {
+    of_code(lent, lent.handlers)
+}
+
+fn of_code(lent: &Lent, handlers: &[u8]) -> Result<Answer, Refusal> {
     let function = lent.pool_lent()?;
-    walks::check(&lent.port, function, lent.code, lent.call.args[1]).map(Answer::Walked)
+    let marks = lent.call.args[1];
+    walks::check(&lent.port, function, lent.code, marks, handlers).map(Answer::Walked)
 }
 
 /// walk_code with each last byte behind the lent code, and behind those that follow it as numbers
@@ -534,7 +574,7 @@ fn walk_last_bytes(lent: &Lent) -> Result<Answer, Refusal> {
         let last = code.len() - 1;
         let mut answer = |byte| {
             code[last] = byte;
-            let said = walks::check(&lent.port, function, &code, code.len() as u64);
+            let said = walks::check(&lent.port, function, &code, code.len() as u64, &[]);
             said.map_or_else(Answer::Refused, Answer::Walked)
         };
         (0..=255).map(&mut answer).collect()

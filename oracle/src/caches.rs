@@ -36,7 +36,7 @@ pub fn exported(folder: &Path) -> Result<Vec<(String, Files)>, String> {
 }
 
 /// What V8 printed, by the text that is to be listed; a listing may have been printed more than once.
-struct Wanted {
+pub struct Wanted {
     left: BTreeMap<String, Vec<Text>>,
 }
 
@@ -50,7 +50,7 @@ struct Text {
 }
 
 impl Wanted {
-    fn new(print: &Path) -> Result<Wanted, String> {
+    pub fn new(print: &Path) -> Result<Wanted, String> {
         let bytes = std::fs::read(print).map_err(|e| format!("{}: {e}", print.display()))?;
         let functions = printed::functions(&String::from_utf8_lossy(&bytes));
         let functions = functions.map_err(|e| format!("{}: {e}", print.display()))?;
@@ -73,6 +73,16 @@ impl Wanted {
             self.left.remove(&key);
         }
         text
+    }
+
+    /// The handler table of the functions that are listed so, or why there is none.
+    pub fn handlers(&self, listing: &str) -> Result<&[[u32; 3]], &'static str> {
+        let texts = self.left.get(&compared(listing)).ok_or("V8 printed no such listing")?;
+        let first = &texts[0].printed.handlers;
+        match texts.iter().all(|text| text.printed.handlers == *first) {
+            true => Ok(first),
+            false => Err("V8 printed two such listings with other handler tables"),
+        }
     }
 
     /// A function that is left and has the same code.
@@ -241,7 +251,7 @@ pub fn record(folder: &Path, print: &Path) -> Result<Recording, String> {
 }
 
 /// The listing, of whatever length.
-fn listed(files: &Files) -> Result<String, String> {
+pub fn listed(files: &Files) -> Result<String, String> {
     let good = checks::table(files, TABLE).and_then(|_| checks::store(files, checks::PROGRAM_FILE));
     good.and_then(|_| checks::function(files, 0)).map_err(|refusal| refusal.to_string())?;
     let port = Port::new(files, TABLE | STORE)?;

@@ -8,7 +8,8 @@
 //! list_recording, jump_recording: the same for whole listings, and for targets and numbers in slots,
 //! out of lists. named: listings with a name. v8, v8_lists: what V8 printed, as vectors.
 //! real: the same functions as record files. walks: the walk check from document 01, with vectors
-//! in walk_*. programs: what the programs are run on. header_recording: headers.
+//! in walk_*. handlers: handler records from document 02, with vectors in handler_recording, by
+//! handler_classes, and walk_tries. programs: what the programs are run on. header_recording: headers.
 //! printed: what V8 prints. caches: functions of real code caches beside it.
 //! entry_recording: entries of switches. slot_recording: slot records. writes: writing an
 //! instruction, from document 02, with vectors in write_recording, out of write_cases. wrong: recorded calls with one
@@ -24,6 +25,9 @@ pub mod codes;
 pub mod decode;
 pub mod entry_recording;
 pub mod faults;
+pub mod handler_classes;
+pub mod handler_recording;
+pub mod handlers;
 pub mod header_recording;
 pub mod instructions;
 pub mod jump_recording;
@@ -48,6 +52,7 @@ pub mod walk_classes;
 pub mod walk_codes;
 pub mod walk_recording;
 pub mod walk_short;
+pub mod walk_tries;
 pub mod walk_v8;
 pub mod walks;
 pub mod write_cases;

@@ -6,6 +6,8 @@ pub struct Printed {
     pub name: String,
     /// jscd's header lines with V8's numbers, then V8's instruction lines as jscd writes them.
     pub listing: String,
+    /// The handler table: start, end and handler of each entry, in its order.
+    pub handlers: Vec<[u32; 3]>,
 }
 
 /// Lines that export/make.js prints before the first file is compiled and behind the last.
@@ -26,7 +28,7 @@ pub fn functions(print: &str) -> Result<Vec<Printed>, String> {
 
 fn function(block: &str) -> Option<Printed> {
     let name = block.split(" (0x").next()?.to_string();
-    let (code, _) = block.split_once("Constant pool (size = ")?;
+    let (code, rest) = block.split_once("Constant pool (size = ")?;
     let number =
         |word: &str| code.lines().find_map(|line| line.strip_prefix(word)?.parse::<i64>().ok());
     let mut listing = format!("Bytecode length: {}\n", number("Bytecode length: ")?);
@@ -40,7 +42,27 @@ fn function(block: &str) -> Option<Printed> {
     for line in code.lines().filter(|line| line.contains(" @ ")) {
         listing += &format!("{}\n", instruction(line)?);
     }
-    Some(Printed { name, listing })
+    Some(Printed { name, listing, handlers: handlers(rest)? })
+}
+
+/// `Handler Table (size = 32)`, a line of headings, and a line for each entry of 16 bytes:
+/// `  (   3,  32)  ->    38 (prediction=0, data=2)`. Nothing behind it has such a line.
+fn handlers(rest: &str) -> Option<Vec<[u32; 3]>> {
+    let Some((_, table)) = rest.rsplit_once("\nHandler Table (size = ") else {
+        return Some(Vec::new());
+    };
+    let (size, lines) = table.split_once(")\n")?;
+    let entries: Vec<&str> = lines.lines().filter(|line| line.contains(")  -> ")).collect();
+    if size.parse() != Ok(16 * entries.len()) {
+        return None;
+    }
+    let entry = |line: &str| {
+        let (range, to) = line.trim_start().strip_prefix('(')?.split_once(")  -> ")?;
+        let (start, end) = range.split_once(',')?;
+        let number = |text: &str| text.trim().parse().ok();
+        Some([number(start)?, number(end)?, number(to.split_once(" (")?.0)?])
+    };
+    entries.into_iter().map(entry).collect()
 }
 
 /// `  466 S> 0x239f500adb1 @   75 : 13 0a             LdaConstant [10]`: without source position and address, the bytes padded as in jscd,
@@ -94,6 +116,25 @@ Bytecode Age: 0
            @    3 : a0 04 02 00        SwitchOnSmiNoFeedback [4], [2], [0] { 0: @70, 1: @73 }
 ";
         assert_eq!(printed[0].listing, wanted);
+    }
+
+    #[test]
+    fn handler_tables() {
+        assert!(functions(PRINT).unwrap()[0].handlers.is_empty());
+        let with = |table: &str| PRINT.replace("files end\n", &format!("{table}files end\n"));
+        let none = with("Handler Table (size = 0)\nSource Position Table (size = 0)\n");
+        assert!(functions(&none).unwrap()[0].handlers.is_empty());
+        let two = "Handler Table (size = 32)
+   from   to       hdlr (prediction,   data)
+  (   3,  32)  ->    38 (prediction=0, data=2)
+  (   6,   6)  -> 12345 (prediction=1, data=3)
+Source Position Table (size = 12)
+0x1945254ece01 <ByteArray[12]>
+";
+        assert_eq!(functions(&with(two)).unwrap()[0].handlers, [[3, 32, 38], [6, 6, 12_345]]);
+        // An entry is missing, or is none.
+        assert!(functions(&with(&two.replace("size = 32", "size = 48"))).is_err());
+        assert!(functions(&with(&two.replace("(   6,", "(   6;"))).is_err());
     }
 
     #[test]

@@ -1,8 +1,9 @@
 //! What the programs jscd_list, jscd_walk and file_cases are run on in the gate, and what they must
 //! print: the listing as the Rust says it, the walk as document 01 does.
 
-use crate::ask::{ask, Call, LISTING, WALK};
+use crate::ask::{ask, ask_with, Call, LISTING, WALK, WALK_WITH};
 use crate::checks::PROGRAM_FILE;
+use crate::handlers::{self, Handler};
 use crate::records::*;
 use crate::sample;
 use std::collections::BTreeMap;
@@ -75,19 +76,51 @@ const CASES: [(&str, usize, usize); 28] = [
     ("walk: length 11, in no run", WALK, 14),
 ];
 
+/// Files of handler records, behind the sets among the arguments.
+const RECORDS: [&str; 9] = [
+    "inside.bin",
+    "last.bin",
+    "return.bin",
+    "beyond.bin",
+    "cut.bin",
+    "long.bin",
+    "no_record.bin",
+    "none.bin",
+    ".",
+];
+
+/// The walks of `06 02 0b` with each of these.
+const HANDLED: [&str; 9] = [
+    "walk: 06 02 0b, a handler at 1",
+    "walk: 06 02 0b, handlers at 1 and at 2, the last one at 2",
+    "walk: 06 02 0b, a handler at 1 of the Return alone",
+    "walk: 06 02 0b, the second record ends at 4",
+    "walk: 06 02 0b, 13 bytes of handlers",
+    "walk: 06 02 0b, handlers of 65,537 bytes",
+    "walk: 06 02 0b, no handlers in the file",
+    "walk: 06 02 0b, handlers missing",
+    "walk: 06 02 0b, handlers a folder",
+];
+
+/// The set that has `06 02 0b`.
+const P12_SET: usize = 8;
+
 /// The data folders, arguments and outputs of the three programs.
 pub fn record() -> Result<Tree, String> {
     let mut tree = Tree::new();
-    let mut walked = sample::sample();
-    walked.body[PAYLOAD].splice(HEADER.., P11.iter().copied());
-    for (program, files, call) in
-        [("jscd_list", sample::sample(), LISTING), ("jscd_walk", walked, WALK)]
-    {
-        tree.insert(format!("{program}/stdout"), said(&files, call)?.into_bytes());
+    tree.insert("jscd_list/stdout".into(), said(&sample::sample(), LISTING)?.into_bytes());
+    for (program, files) in [("jscd_list", sample::sample()), ("jscd_walk", walk_files())] {
         for (name, body) in NAMES.iter().zip(files.body) {
             tree.insert(format!("{program}/data/{name}"), body);
         }
     }
+    // The walk program is run with its option: a handler at the byte behind the prefix.
+    let files = walk_files();
+    let records = records(&[(0, 1, 1)]);
+    tree.insert("jscd_walk/stdout".into(), said_with(&files, &records)?.into_bytes());
+    tree.insert("jscd_walk/data/handlers.bin".into(), records);
+    let words = ["--handlers", "handlers.bin"].into_iter().chain(NAMES);
+    tree.insert("jscd_walk/args".into(), words.map(|word| format!("{word}\n")).collect::<String>().into_bytes());
     let data = case_files();
     tree.insert("file_cases/args".into(), arguments().into_bytes());
     tree.insert("file_cases/stdout".into(), case_output(&data)?.into_bytes());
@@ -95,6 +128,19 @@ pub fn record() -> Result<Tree, String> {
         tree.insert(format!("file_cases/data/{name}"), body);
     }
     Ok(tree)
+}
+
+/// The sample with P11's code.
+fn walk_files() -> Files {
+    let mut files = sample::sample();
+    files.body[PAYLOAD].splice(HEADER.., P11.iter().copied());
+    files
+}
+
+/// A file of handler records.
+fn records(of: &[(u32, u32, u32)]) -> Vec<u8> {
+    let records: Vec<Handler> = of.iter().map(|(a, e, to)| Handler::new(*a, *e, *to)).collect();
+    handlers::file(&records)
 }
 
 /// Writes the tree into the folder crates/.
@@ -115,6 +161,11 @@ fn said(files: &Files, function: usize) -> Result<String, String> {
     let args: &[u64] = if function == WALK { &marks } else { &[] };
     let said = ask(files, &[], &Call::new(function, args))?.to_string();
     Ok(format!("{}\n", said.trim_end_matches('\n')))
+}
+
+/// What the walk program prints with handler records.
+fn said_with(files: &Files, records: &[u8]) -> Result<String, String> {
+    Ok(format!("{}\n", ask_with(files, &[], records, &Call::new(WALK_WITH, &[65_536]))?))
 }
 
 /// The files of file_cases. Those of the usual names are the sample's table with InvokeIntrinsic as
@@ -158,6 +209,12 @@ fn case_files() -> BTreeMap<&'static str, Vec<u8>> {
         ("kind_6.bin", kind_6),
         ("empty.bin", payload(&[])),
         ("not_held.bin", not_held),
+        ("inside.bin", records(&[(0, 2, 1)])),
+        ("last.bin", records(&[(0, 2, 1), (0, 3, 2)])),
+        ("return.bin", records(&[(2, 3, 1)])),
+        ("beyond.bin", records(&[(0, 2, 2), (2, 4, 0)])),
+        ("cut.bin", [records(&[(0, 2, 1)]), vec![0]].concat()),
+        ("no_record.bin", Vec::new()),
     ]);
     out
 }
@@ -182,7 +239,8 @@ fn names(set: usize) -> [&'static str; 8] {
 
 /// One name a line.
 fn arguments() -> String {
-    (0..SETS.len()).flat_map(names).map(|name| format!("{name}\n")).collect()
+    let sets = (0..SETS.len()).flat_map(names);
+    sets.chain(RECORDS).map(|name| format!("{name}\n")).collect()
 }
 
 /// Each case's title and answer; where a file is missing, and for a wrong number of arguments, there is
@@ -191,14 +249,26 @@ fn case_output(data: &BTreeMap<&str, Vec<u8>>) -> Result<String, String> {
     let mut out = String::new();
     for (title, function, set) in CASES {
         out += &format!("{title}\n");
-        let bodies: Option<Vec<Vec<u8>>> =
-            names(set).iter().map(|name| data.get(name).cloned()).collect();
-        if let Some(Ok(body)) = bodies.map(<[Vec<u8>; 8]>::try_from) {
-            out += &said(&Files { body }, function)?;
+        if let Some(files) = set_files(data, set) {
+            out += &said(&files, function)?;
         }
     }
-    out += &format!("list: {} arguments\n", 8 * SETS.len());
+    for (title, name) in HANDLED.iter().zip(RECORDS) {
+        out += &format!("{title}\n");
+        if let (Some(files), Some(records)) = (set_files(data, P12_SET), data.get(name)) {
+            out += &said_with(&files, records)?;
+        }
+    }
+    let count = 8 * SETS.len() + RECORDS.len();
+    out += &format!("list: {count} arguments\nwalk: {count} arguments\n");
     Ok(out)
+}
+
+/// The eight files of a set, where all are there.
+fn set_files(data: &BTreeMap<&str, Vec<u8>>, set: usize) -> Option<Files> {
+    let body: Option<Vec<Vec<u8>>> =
+        names(set).iter().map(|name| data.get(name).cloned()).collect();
+    body.and_then(|body| body.try_into().ok()).map(|body| Files { body })
 }
 
 #[cfg(test)]
@@ -226,6 +296,20 @@ mod tests {
             assert_eq!(lines[1], format!("Bytecode length: {length}"));
             assert_eq!(lines[6], "Bytecode Age: 0");
             assert!(["list: ", "walk: "].iter().any(|title| lines[7].starts_with(title)));
+        }
+    }
+
+    /// Wish 5: with handler records both programs say something else than without.
+    #[test]
+    fn handlers_show() {
+        let tree = record().unwrap();
+        let text = |path: &str| String::from_utf8(tree[path].clone()).unwrap();
+        assert_eq!(text("jscd_walk/stdout"), "leaves steps 1 from 0\n");
+        assert_eq!(said(&walk_files(), WALK).unwrap(), "leaves steps 2 from 4\n");
+        let output = text("file_cases/stdout");
+        let said = ["leaves steps 1 from 0", "closed", "closed", "refused 25 at 1", "refused 24 at 0"];
+        for (title, said) in HANDLED.iter().zip(said.into_iter().chain(["refused 24 at 0", "closed"])) {
+            assert!(output.contains(&format!("\n{title}\n{said}\n")), "{title}");
         }
     }
 

@@ -167,6 +167,9 @@ mod tests {
             "walk-few",
             "walk-v8",
             "walk-caches",
+            "walk-handlers",
+            "walk-tries",
+            "walk-tries-v8",
         ];
         let rewalk = rewalk.map(|name| ("rewalk", name.to_owned() + ".vec"));
         let copies = replay.chain(relist.map(|name| ("relist", name)));

@@ -1,10 +1,11 @@
-//! Vector files: record files, lent code and calls with their answers (see FORMAT.md).
+//! Vector files: record files, lent code, handler records and calls with their answers (see FORMAT.md).
 
 use crate::ask::{self, Answer, Call, DECODE_SMI_BYTES, FUNCTIONS};
 use crate::records::Files;
 use crate::walks::{packed, Outcome};
 
 const CODE: u8 = 8;
+const HANDLERS: u8 = 9;
 const PART: u8 = 16;
 const CALL: u8 = 32;
 
@@ -13,6 +14,7 @@ pub struct Writer {
     pub out: Vec<u8>,
     files: Files,
     code: Vec<u8>,
+    handlers: Vec<u8>,
     pub calls: usize,
     shares: bool,
     /// Contents up to this length are not looked for.
@@ -36,7 +38,7 @@ impl Writer {
         self.out.extend(body);
     }
 
-    /// Sets a record file or the code, as contents or as a part, whichever is shorter.
+    /// Sets a record file, the code or the handlers, as contents or as a part, whichever is shorter.
     fn set(&mut self, kind: u8, body: &[u8]) {
         if self.shares && body.len() > self.short {
             if let Some(start) = self.out.windows(body.len()).position(|w| w == body) {
@@ -65,9 +67,17 @@ impl Writer {
         }
     }
 
-    /// Asks the call on the files and code set last, and records the answer.
+    /// Sets the handler records.
+    pub fn handlers(&mut self, handlers: &[u8]) {
+        if handlers != self.handlers {
+            self.set(HANDLERS, handlers);
+            self.handlers = handlers.to_vec();
+        }
+    }
+
+    /// Asks the call on the files, code and handlers set last, and records the answer.
     pub fn call(&mut self, call: &Call) -> Result<Answer, String> {
-        let answer = ask::ask(&self.files, &self.code, call)?;
+        let answer = ask::ask_with(&self.files, &self.code, &self.handlers, call)?;
         self.given(call, &answer);
         Ok(answer)
     }
@@ -140,18 +150,26 @@ fn runs(answers: &[Answer]) -> Vec<u8> {
 pub struct Recorded<'a> {
     /// Where its item starts.
     pub at: usize,
-    /// The files and the code as they are then.
+    /// The files, the code and the handlers as they are then.
     pub files: &'a Files,
     pub code: &'a [u8],
+    pub handlers: &'a [u8],
     pub call: Call,
     /// Status and answer.
     pub said: &'a [u8],
 }
 
+impl Recorded<'_> {
+    /// What is said of it today.
+    pub fn asked(&self) -> Result<Answer, String> {
+        ask::ask_with(self.files, self.code, self.handlers, &self.call)
+    }
+}
+
 /// Asks every call of a vector file again. Gives the number of calls, or the first that differs.
 pub fn replay(vectors: &[u8]) -> Result<usize, String> {
     each(vectors, |recorded| {
-        let answer = ask::ask(recorded.files, recorded.code, &recorded.call)?;
+        let answer = recorded.asked()?;
         if said(&answer) != recorded.said {
             let name = FUNCTIONS[recorded.call.function].name;
             let args = &recorded.call.args;
@@ -168,6 +186,7 @@ pub fn each(
 ) -> Result<usize, String> {
     let mut files = Files::default();
     let mut code = Vec::new();
+    let mut handlers = Vec::new();
     let mut calls = 0;
     let mut rest = vectors;
     while !rest.is_empty() {
@@ -183,10 +202,12 @@ pub fn each(
         match kind {
             0..=7 => files.body[kind as usize] = body_was.to_vec(),
             CODE => code = body_was.to_vec(),
+            HANDLERS => handlers = body_was.to_vec(),
             _ => {
                 let call = arguments(kind, body_was).ok_or(format!("bad item at {at}"))?;
                 let said = &body_was[8 * call.args.len() + call.bytes.len()..];
-                take(&Recorded { at, files: &files, code: &code, call, said })?;
+                let (files, code, handlers) = (&files, &code[..], &handlers[..]);
+                take(&Recorded { at, files, code, handlers, call, said })?;
                 calls += 1;
             }
         }

@@ -3,6 +3,8 @@
 
 use crate::ask::*;
 use crate::decode::plain;
+use crate::handler_classes;
+use crate::handlers::{self, Handler};
 use crate::port::{Port, STORE, TABLE};
 use crate::records::*;
 use crate::switches;
@@ -12,34 +14,47 @@ use jscd::bytecode::Instr;
 use std::collections::{BTreeMap, VecDeque};
 
 /// What a walk was asked of.
-struct Asked<'a> {
-    listed: Vec<Instr>,
-    steps: Steps,
+pub struct Asked<'a> {
+    pub listed: Vec<Instr>,
+    pub steps: Steps,
     entries: Vec<Option<usize>>,
-    code: &'a [u8],
-    walked: &'a Walked,
+    pub handlers: Vec<Handler>,
+    /// By offset, where an instruction there would throw to; see `painted`.
+    pub throws: Vec<Option<usize>>,
+    pub code: &'a [u8],
+    pub walked: &'a Walked,
 }
 
 /// The classes of a call and its answer.
 pub fn classes(
     files: &Files,
     lent: &[u8],
+    handlers: &[u8],
     call: &Call,
     answer: &Answer,
 ) -> Result<Vec<String>, String> {
     let name = FUNCTIONS[call.function].name;
     let marks = *call.args.last().unwrap();
-    let kinds = match answer {
+    let handlers = if lends_handlers(call) { handlers } else { &[] };
+    let mut kinds = match answer {
         Answer::Refused(refusal) => refused(lent, call, refusal.number, marks),
-        Answer::Walked(walked) => on_walk(files, lent, call, walked, marks)?,
+        Answer::Walked(walked) => on_walk(files, lent, handlers, call, walked)?,
         _ => return Err(format!("{call:?}: {answer}")),
     };
+    if let (Answer::Refused(refusal), true) = (answer, lends_handlers(call)) {
+        kinds.extend(handler_classes::refused(files, lent, handlers, call, refusal)?);
+    }
     Ok(kinds.into_iter().map(|kind| format!("{name}: {kind}")).collect())
+}
+
+/// Whether the walk is that of object 0.
+pub fn of_object(call: &Call) -> bool {
+    matches!(call.function, WALK | WALK_WITH)
 }
 
 fn refused(lent: &[u8], call: &Call, number: u64, marks: u64) -> Vec<String> {
     let mut out = vec![format!("refused {number}")];
-    let short = marks < lent.len() as u64 && call.function == WALK_CODE;
+    let short = marks < lent.len() as u64 && !of_object(call);
     match number {
         10..=16 if short => out.push(format!("refused {number}, the marks too short as well")),
         18 | 19 if marks == 0 => out.push(format!("refused {number}, no mark")),
@@ -53,27 +68,24 @@ fn refused(lent: &[u8], call: &Call, number: u64, marks: u64) -> Vec<String> {
 fn on_walk(
     files: &Files,
     lent: &[u8],
+    handlers: &[u8],
     call: &Call,
     walked: &Walked,
-    marks: u64,
 ) -> Result<Vec<String>, String> {
-    let object = if call.function == WALK { 0 } else { call.args[0] };
+    let object = if of_object(call) { 0 } else { call.args[0] };
     let store = if object == NO_OBJECT { 0 } else { STORE };
     let port = Port::new(files, TABLE | store)?;
     let function = if object == NO_OBJECT { port.without_pool() } else { object as usize };
-    let code = if call.function == WALK { port.code(0) } else { lent };
-    let listed = listed(&port, function, code).map_err(|r| r.to_string())?;
-    let steps = all_steps(&port, function, &listed);
-    let entries = |ins: &Instr| switches::entries(&port, function, ins);
-    let entries = listed.iter().map(|ins| entries(ins).map(|e| e.len())).collect();
-    let asked = Asked { listed, steps, entries, code, walked };
+    let code = if of_object(call) { port.code(0) } else { lent };
+    let asked = Asked::new(&port, function, code, handlers, walked)?;
+    let marks = *call.args.last().unwrap();
     let empty = code.is_empty();
-    let length = if call.function == WALK { port.length_field(0) } else { None };
+    let length = if of_object(call) { port.length_field(0) } else { None };
     let mut out = held(&[
         ("empty code, no mark", empty && marks == 0),
         ("empty code, some marks", empty && marks > 0),
         ("empty code, its length is 0", empty && length.is_some()),
-        ("empty code, no length is found", empty && call.function == WALK && length.is_none()),
+        ("empty code, no length is found", empty && of_object(call) && length.is_none()),
         ("empty code, no object", empty && object == NO_OBJECT),
         ("empty code, an object with a pool", empty && store != 0 && port.pool(function).is_some()),
         ("as many marks as bytes", marks == code.len() as u64),
@@ -86,21 +98,59 @@ fn on_walk(
     ]);
     out.extend(asked.outcome()?);
     out.extend(asked.instructions());
+    if lends_handlers(call) {
+        let without = all_steps(&port, function, &asked.listed, &[]);
+        out.extend(handler_classes::on_walk(&asked, &without));
+    }
     Ok(out)
 }
 
 /// Names for the marks that hold.
-fn held(marks: &[(&str, bool)]) -> Vec<String> {
+pub fn held(marks: &[(&str, bool)]) -> Vec<String> {
     marks.iter().filter(|(_, is)| *is).map(|(mark, _)| mark.to_string()).collect()
 }
 
+/// Where an instruction would throw to, by offset: the records painted one over the other, so that the last stays.
+fn painted(handlers: &[Handler], length: usize) -> Vec<Option<usize>> {
+    let mut out = vec![None; length];
+    for handler in handlers {
+        out[handler.start as usize..handler.end as usize].fill(Some(handler.to as usize));
+    }
+    out
+}
+
+impl<'a> Asked<'a> {
+    /// The steps to handlers are put behind the others here, not by `handlers::step`.
+    fn new(
+        port: &Port,
+        function: usize,
+        code: &'a [u8],
+        handlers: &[u8],
+        walked: &'a Walked,
+    ) -> Result<Asked<'a>, String> {
+        let listed = listed(port, function, code).map_err(|r| r.to_string())?;
+        let handlers = handlers::records(handlers);
+        let mut throws = painted(&handlers, code.len());
+        let mut steps = all_steps(port, function, &listed, &[]);
+        for ins in &listed {
+            match plain(ins) {
+                "Return" | "SuspendGenerator" => throws[ins.offset] = None,
+                _ => steps.get_mut(&ins.offset).unwrap().extend(throws[ins.offset].map(Some)),
+            }
+        }
+        let entries = |ins: &Instr| switches::entries(port, function, ins).map(|e| e.len());
+        let entries = listed.iter().map(entries).collect();
+        Ok(Asked { listed, steps, entries, handlers, throws, code, walked })
+    }
+}
+
 impl Asked<'_> {
-    fn leaving(&self, at: usize) -> bool {
+    pub fn leaving(&self, at: usize) -> bool {
         self.steps[&at].iter().any(|step| leaves(&self.steps, *step))
     }
 
     /// Steps to each offset by a queue, and the first met that leaves; steps in their order or not.
-    fn queue(&self, backward: bool) -> (BTreeMap<usize, usize>, Option<usize>) {
+    pub fn queue(&self, backward: bool) -> (BTreeMap<usize, usize>, Option<usize>) {
         // In empty code there is nowhere to stand.
         let start = (!self.code.is_empty()).then_some(0);
         let mut distances: BTreeMap<usize, usize> = start.map(|at| (at, 0)).into_iter().collect();

@@ -279,7 +279,7 @@ pub fn code(r: &mut Random, files: &Files, pool: &[Element]) -> Made {
     maker.finish(r)
 }
 
-fn is_jump(name: &str) -> bool {
+pub fn is_jump(name: &str) -> bool {
     ALWAYS.contains(&name) || MAYBE.contains(&name)
 }
 

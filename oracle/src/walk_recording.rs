@@ -81,7 +81,7 @@ impl WalkRecording {
         assert!(*args.last().unwrap() <= MOST_MARKS);
         let call = Call::new(function, args);
         let answer = self.writer.call(&call)?;
-        self.classes.add(&classes(&self.files, &self.code, &call, &answer)?);
+        self.classes.add(&classes(&self.files, &self.code, &[], &call, &answer)?);
         Ok(())
     }
 

@@ -2,6 +2,7 @@
 //! nothing on walks; but none leaves code that its compiler made.
 
 use crate::ask::*;
+use crate::records::Files;
 use crate::v8::{hex, tables};
 use crate::vectors::Writer;
 use crate::walk_codes::{set_store, Element};
@@ -22,28 +23,30 @@ pub struct WalkV8Recording {
 }
 
 pub fn record(folder: &Path) -> Result<WalkV8Recording, String> {
-    let path = folder.join("cases.jsonl");
-    let all = std::fs::read_to_string(&path).map_err(|e| format!("{}: {e}", path.display()))?;
     let writer = Writer::sharing_above(SHORT);
     let mut out = WalkV8Recording { writer, functions: 0, reached: 0, others: Vec::new() };
+    for case in cases(folder)? {
+        out.function(&case.files(folder)?, &case)?;
+    }
+    Ok(out)
+}
+
+/// The functions of a folder of listings, by version and length.
+pub fn cases(folder: &Path) -> Result<Vec<Case>, String> {
+    let path = folder.join("cases.jsonl");
+    let all = std::fs::read_to_string(&path).map_err(|e| format!("{}: {e}", path.display()))?;
     let mut cases = Vec::new();
     for (k, line) in all.lines().enumerate() {
         cases.push(case(line).ok_or(format!("{}: line {} is no case", path.display(), k + 1))?);
     }
     cases.sort_by_key(|case| (case.v8.clone(), case.code.len()));
-    for case in &cases {
-        out.function(&folder.join("tables").join(&case.v8), case)?;
-    }
-    Ok(out)
+    Ok(cases)
 }
 
 impl WalkV8Recording {
     /// The walk of object 0, and of the same code lent with its pool.
-    fn function(&mut self, tables_of: &Path, case: &Case) -> Result<(), String> {
-        let mut files = tables(tables_of)?;
-        let head = (files.layout(2) as usize).checked_sub(40).ok_or("no header")?;
-        set_store(&mut files, &vec![0; head], &case.code, &case.pool);
-        self.writer.files(&files);
+    fn function(&mut self, files: &Files, case: &Case) -> Result<(), String> {
+        self.writer.files(files);
         self.writer.code(&case.code);
         let length = case.code.len() as u64;
         let of_object = self.writer.call(&Call::new(WALK, &[65_536]))?;
@@ -62,10 +65,22 @@ impl WalkV8Recording {
     }
 }
 
-struct Case {
-    v8: String,
-    code: Vec<u8>,
+pub struct Case {
+    pub v8: String,
+    pub code: Vec<u8>,
     pool: Vec<Element>,
+    /// The handler table: start, end and handler of each entry.
+    pub handlers: Vec<[u32; 3]>,
+}
+
+impl Case {
+    /// Its version's tables, and a store with its code and pool.
+    pub fn files(&self, folder: &Path) -> Result<Files, String> {
+        let mut files = tables(&folder.join("tables").join(&self.v8))?;
+        let head = (files.layout(2) as usize).checked_sub(40).ok_or("no header")?;
+        set_store(&mut files, &vec![0; head], &self.code, &self.pool);
+        Ok(files)
+    }
 }
 
 fn case(line: &str) -> Option<Case> {
@@ -74,10 +89,16 @@ fn case(line: &str) -> Option<Case> {
         true => Some(Element::Reference),
         false => Some(Element::Number(i32::try_from(value.as_i64()?).ok()?)),
     };
+    let number = |value: &Value| value.as_u64().and_then(|n| u32::try_from(n).ok());
+    let entry = |value: &Value| {
+        let numbers: Option<Vec<u32>> = value.as_array()?.iter().map(number).collect();
+        <[u32; 3]>::try_from(numbers?).ok()
+    };
     Some(Case {
         v8: case["v8"].as_str()?.into(),
         code: hex(case["code"].as_str()?)?,
         pool: case["pool"].as_array()?.iter().map(element).collect::<Option<_>>()?,
+        handlers: case["handlers"].as_array()?.iter().map(entry).collect::<Option<_>>()?,
     })
 }
 

@@ -1,12 +1,13 @@
-//! The walk check, written from document 01's section "Walks" and document 02's Wish 4 (empty code). The
-//! Rust has none: it decodes and gives jump targets and switch entries (`switches` those under a
-//! prefix), and what the steps of an instruction are is said here.
+//! The walk check, written from document 01's section "Walks" and document 02's Wishes 4 (empty code) and 5
+//! (exception handlers, in `handlers`). The Rust has none: it decodes and gives jump targets and switch
+//! entries (`switches` those under a prefix), and what the steps of an instruction are is said here.
 //!
 //! The sets of offsets reached in exactly 0, 1, 2, .. steps are worked out one after the other, as the
 //! section defines them.
 
 use crate::checks::{self, Refusal};
 use crate::decode::{self, plain};
+use crate::handlers::{self, Handler};
 use crate::port::Port;
 use crate::switches;
 use jscd::bytecode::Instr;
@@ -76,23 +77,36 @@ pub const SWITCHES: [&str; 2] = ["SwitchOnSmiNoFeedback", "SwitchOnGeneratorStat
 /// The walk over the code of an object, a BytecodeArray, and the refusals from 9 on. By Wish 4 this is
 /// the one place that gives 19: "exactly where it takes its code from an object whose length is positive
 /// and no run holds that code". A length that is not found counts as 0.
-pub fn check_object(port: &Port, function: usize, marks: u64) -> Result<Walked, Refusal> {
+pub fn check_object(
+    port: &Port,
+    function: usize,
+    marks: u64,
+    handlers: &[u8],
+) -> Result<Walked, Refusal> {
     let length = port.code_length(function);
     checks::code_length(length)?;
     match port.code_part(function) {
         None if length > 0 => checks::refuse(19, 0),
-        held => check(port, function, held.unwrap_or_default(), marks),
+        held => check(port, function, held.unwrap_or_default(), marks, handlers),
     }
 }
 
 /// The walk over code that the table's checks have passed, and the refusals from 10 on: `function` is
-/// the object whose pool is meant, `marks` the length of the mark buffer.
-pub fn check(port: &Port, function: usize, code: &[u8], marks: u64) -> Result<Walked, Refusal> {
+/// the object whose pool is meant, `marks` the length of the mark buffer, `handlers` the file of handler
+/// records.
+pub fn check(
+    port: &Port,
+    function: usize,
+    code: &[u8],
+    marks: u64,
+    handlers: &[u8],
+) -> Result<Walked, Refusal> {
     let listed = listed(port, function, code)?;
     if marks < code.len() as u64 {
         return checks::refuse(18, 0);
     }
-    Ok(walk(&all_steps(port, function, &listed), code.len()))
+    let handlers = handlers::checked(handlers, code.len())?;
+    Ok(walk(&all_steps(port, function, &listed, &handlers), code.len()))
 }
 
 /// The listed instructions, after checks 10 to 16.
@@ -105,8 +119,14 @@ pub fn listed(port: &Port, function: usize, code: &[u8]) -> Result<Vec<Instr>, R
     Ok(listed)
 }
 
-pub fn all_steps(port: &Port, function: usize, listed: &[Instr]) -> Steps {
-    listed.iter().map(|ins| (ins.offset, steps(port, function, ins))).collect()
+/// The steps of each, and behind them the one to its handler, where it has one.
+pub fn all_steps(port: &Port, function: usize, listed: &[Instr], handlers: &[Handler]) -> Steps {
+    let all = |ins: &Instr| {
+        let mut all = steps(port, function, ins);
+        all.extend(handlers::step(handlers, ins).map(Some));
+        (ins.offset, all)
+    };
+    listed.iter().map(all).collect()
 }
 
 fn steps(port: &Port, function: usize, ins: &Instr) -> Vec<Step> {
@@ -129,7 +149,7 @@ pub fn leaves(steps: &Steps, step: Step) -> bool {
     !step.is_some_and(|place| steps.contains_key(&place))
 }
 
-fn walk(steps: &Steps, length: usize) -> Walked {
+pub fn walk(steps: &Steps, length: usize) -> Walked {
     // `now` is what is reached in exactly `taken` steps, `reached` what is in at most that many. Wish 4:
     // in empty code no instruction stands at 0, and no walk can take a step.
     let mut now: BTreeSet<usize> = [0].into_iter().filter(|at| steps.contains_key(at)).collect();
@@ -324,22 +344,53 @@ mod tests {
         Walked { outcome, marks }
     }
 
+    /// Handler records of this code, as good ones are.
+    fn some_handlers(r: &mut Random, length: u64) -> Vec<Handler> {
+        let one = |r: &mut Random| {
+            let start = r.below(length);
+            let end = start + 1 + r.below(length - start);
+            Handler::new(start as u32, end as u32, r.below(length + 2) as u32)
+        };
+        (0..r.below(4)).map(|_| one(r)).collect()
+    }
+
+    /// The steps with no records, and those to handlers put behind them: records painted one over the other.
+    fn painted(port: &Port, listed: &[Instr], handlers: &[Handler], length: usize) -> Steps {
+        let mut over = vec![None; length];
+        for handler in handlers {
+            over[handler.start as usize..handler.end as usize].fill(Some(handler.to as usize));
+        }
+        let mut steps = all_steps(port, 0, listed, &[]);
+        for ins in listed.iter().filter(|ins| !matches!(plain(ins), "Return" | "SuspendGenerator"))
+        {
+            if over[ins.offset].is_some() {
+                steps.get_mut(&ins.offset).unwrap().push(over[ins.offset]);
+            }
+        }
+        steps
+    }
+
     #[test]
     fn distances_say_the_same() {
-        let files = sample::function(&[], 8, &[Some(4), None, Some(-3), Some(2)]);
+        let mut files = sample::function(&[], 8, &[Some(4), None, Some(-3), Some(2)]);
+        files.body[OPCODES].extend(opcode_record("Throw", 0, &[]));
+        files.body[OPCODES].extend(opcode_record("SuspendGenerator", 0, &[]));
         let port = Port::new(&files, TABLE | STORE).unwrap();
         let mut r = Random::new(1);
-        let mut counts = [0, 0];
-        for _ in 0..60_000 {
+        let mut counts = [0; 4];
+        for k in 0..120_000 {
             let length = r.below(15);
-            let code: Vec<u8> = (0..length).map(|_| r.below(12) as u8).collect();
+            let code: Vec<u8> = (0..length).map(|_| r.below(14) as u8).collect();
             let Ok(listed) = listed(&port, 0, &code) else {
                 continue;
             };
-            let steps = all_steps(&port, 0, &listed);
-            let walked = walk(&steps, code.len());
-            assert_eq!(walked, by_distances(&steps, code.len()), "{code:02x?}");
-            counts[(walked.outcome == Outcome::Closed) as usize] += 1;
+            let lent = k % 3 > 0 && length > 0;
+            let handlers = if lent { some_handlers(&mut r, length) } else { Vec::new() };
+            let steps = painted(&port, &listed, &handlers, code.len());
+            let walked = check(&port, 0, &code, length, &handlers::file(&handlers)).unwrap();
+            assert_eq!(walked, by_distances(&steps, code.len()), "{code:02x?} {handlers:?}");
+            let closed = (walked.outcome == Outcome::Closed) as usize;
+            counts[closed + 2 * !handlers.is_empty() as usize] += 1;
         }
         assert!(counts.iter().all(|n| *n > 500), "{counts:?}");
     }

@@ -12,7 +12,7 @@ pub struct Program {
     pub name: &'static str,
     functions: &'static [usize],
     files: &'static [&'static str],
-    /// Recordings of real functions: of each the shortest calls are changed too, however long their tables are.
+    /// Those of real functions: of each the shortest calls are changed too, however long their tables are.
     real: &'static [&'static str],
 }
 
@@ -59,14 +59,22 @@ pub const PROGRAMS: [Program; 3] = [
             "entry.vec",
             "header.vec",
             "layout.vec",
+            "caches.vec",
         ],
         real: &["caches.vec"],
     },
     Program {
         name: "rewalk",
-        functions: &[WALK, WALK_CODE, WALK_LAST_BYTES],
-        files: &["walk-1.vec", "walk-2.vec", "walk-few.vec"],
-        real: &["walk-caches.vec"],
+        functions: &[WALK, WALK_CODE, WALK_LAST_BYTES, WALK_WITH, WALK_CODE_WITH],
+        files: &[
+            "walk-1.vec",
+            "walk-2.vec",
+            "walk-few.vec",
+            "walk-caches.vec",
+            "walk-handlers.vec",
+            "walk-tries.vec",
+        ],
+        real: &["walk-caches.vec", "walk-tries.vec"],
     },
 ];
 
@@ -85,6 +93,7 @@ struct Chosen {
     number: usize,
     files: Files,
     code: Vec<u8>,
+    handlers: Vec<u8>,
     call: Call,
     said: Vec<u8>,
 }
@@ -94,7 +103,7 @@ struct Chosen {
 pub fn record(program: &Program, folder: &Path) -> Result<WrongRecording, String> {
     let mut chosen: BTreeMap<(usize, String), Chosen> = BTreeMap::new();
     let mut number = 0;
-    for file in program.files.iter().chain(program.real) {
+    for file in program.files {
         let path = folder.join(file);
         let right = std::fs::read(&path).map_err(|e| format!("{}: {e}", path.display()))?;
         let real = program.real.contains(file).then_some(*file);
@@ -137,7 +146,7 @@ fn choose(
     if !program.functions.contains(&call.function) || long {
         return;
     }
-    for kind in kinds(call.function, recorded.said) {
+    for kind in kinds(recorded) {
         let kind = real.map(|file| format!("{kind} in {file}")).unwrap_or(kind);
         let key = (call.function, kind);
         if chosen.get(&key).is_some_and(|held| held.weight <= weight) {
@@ -148,6 +157,7 @@ fn choose(
             number,
             files: recorded.files.clone(),
             code: recorded.code.to_vec(),
+            handlers: recorded.handlers.to_vec(),
             call: call.clone(),
             said: recorded.said.to_vec(),
         };
@@ -160,7 +170,8 @@ fn weight(recorded: &Recorded) -> usize {
     let lent = lent(&recorded.call);
     let files = (0..8).filter(|k| lent & 1 << k != 0).map(|k| recorded.files.body[k].len());
     let code = if lends_code(&recorded.call) { recorded.code.len() } else { 0 };
-    files.sum::<usize>() + code + recorded.said.len()
+    let handlers = if lends_handlers(&recorded.call) { recorded.handlers.len() } else { 0 };
+    files.sum::<usize>() + code + handlers + recorded.said.len()
 }
 
 /// Sets what a call is lent; the rest stays.
@@ -173,6 +184,9 @@ fn set(writer: &mut Writer, files: &mut Files, right: &Chosen) {
     if lends_code(&right.call) {
         writer.code(&right.code);
     }
+    if lends_handlers(&right.call) {
+        writer.handlers(&right.handlers);
+    }
 }
 
 fn number(said: &[u8], k: usize) -> u64 {
@@ -180,7 +194,19 @@ fn number(said: &[u8], k: usize) -> u64 {
 }
 
 /// Which kinds of answers this is one of.
-fn kinds(function: usize, said: &[u8]) -> Vec<String> {
+fn kinds(recorded: &Recorded) -> Vec<String> {
+    let mut out = kinds_of(recorded.call.function, recorded.said);
+    // Walks with records are also told apart by what is said without them.
+    if lends_handlers(&recorded.call) && recorded.said[0] == 1 {
+        let without = ask(recorded.files, recorded.code, &recorded.call).expect("it was asked");
+        if vectors::said(&without) != recorded.said {
+            out.extend(out.clone().into_iter().map(|kind| kind + ", otherwise without records"));
+        }
+    }
+    out
+}
+
+fn kinds_of(function: usize, said: &[u8]) -> Vec<String> {
     match said[0] {
         0 => return vec!["nothing".into()],
         2 => return vec![format!("refused {}", number(said, 0))],
@@ -191,7 +217,7 @@ fn kinds(function: usize, said: &[u8]) -> Vec<String> {
         ARRAY_ELEM | JUMP_ENTRY => vec![format!("kind {}", number(said, 0))],
         SLOT_AT => vec![format!("kind {}, inner {}", number(said, 0), number(said, 4))],
         JUMP_TABLE => vec![format!("{} entries", number(said, 0).min(2))],
-        WALK | WALK_CODE => {
+        WALK | WALK_CODE | WALK_WITH | WALK_CODE_WITH => {
             let leaves = number(said, 0) == 1;
             let marks = said.len() - if leaves { 25 } else { 9 };
             let what = if leaves { "leaves" } else { "closed" };
@@ -216,7 +242,7 @@ fn kinds(function: usize, said: &[u8]) -> Vec<String> {
     }
 }
 
-/// What is said, with one thing changed, in each way.
+/// What is said, with one thing changed, in each way; and what is said where no handler records are lent.
 fn wrongs(right: &Chosen) -> Result<Vec<Vec<u8>>, String> {
     let said = &right.said[..];
     let mut out = vec![changed(said, 0, |status| (status + 1) % 4)];
@@ -226,7 +252,7 @@ fn wrongs(right: &Chosen) -> Result<Vec<Vec<u8>>, String> {
             out.extend([1, said.len() / 2, said.len() - 1].map(|at| flipped(said, at, 0)));
             out.push(said[..said.len() - 1].to_vec());
         }
-        (1, WALK | WALK_CODE) => out.extend(wrong_walks(right)?),
+        (1, WALK | WALK_CODE | WALK_WITH | WALK_CODE_WITH) => out.extend(wrong_walks(right)?),
         (1, LAST_BYTES | WALK_LAST_BYTES) => out.extend(wrong_runs(said)),
         (_, function) => {
             out.extend((0..said.len() / 8).flat_map(|k| wrong_number(said, k)));
@@ -246,6 +272,10 @@ fn wrongs(right: &Chosen) -> Result<Vec<Vec<u8>>, String> {
         }
     }
     out.push([said, &[0]].concat());
+    if lends_handlers(&right.call) {
+        let without = vectors::said(&ask(&right.files, &right.code, &right.call)?);
+        out.extend((without != said).then_some(without));
+    }
     out.sort();
     out.dedup();
     Ok(out)
@@ -290,7 +320,8 @@ fn closed_empty() -> Vec<u8> {
 /// refusal, 19 as before Wish 4, or 18.
 fn wrong_walks(right: &Chosen) -> Result<Vec<Vec<u8>>, String> {
     let said = &right.said[..];
-    let Answer::Walked(walked) = ask(&right.files, &right.code, &right.call)? else {
+    let asked = ask_with(&right.files, &right.code, &right.handlers, &right.call)?;
+    let Answer::Walked(walked) = asked else {
         return Err("a recorded walk is none".into());
     };
     let numbers = if number(said, 0) == 0 { 1 } else { 3 };
@@ -396,7 +427,7 @@ mod tests {
             let recorded = folder.join(format!("wrong-{}.vec", program.name));
             assert!(std::fs::read(recorded).unwrap() == recording.writer.out, "{}", program.name);
             let calls = vectors::each(&recording.writer.out, |wrong| {
-                let answer = ask(wrong.files, wrong.code, &wrong.call)?;
+                let answer = wrong.asked()?;
                 assert!(
                     vectors::said(&answer) != wrong.said,
                     "{}: item at {}",

@@ -57,11 +57,11 @@ abbrev pub walkTold : Walked × List ℕ → ℕ × ℕ × ℕ × List ℕ
 walkTold a = let n = walkNumbers (a .0) in (n .0, n .1, n .2, a .1)
 
 -- Demand 3 in the numbers that are told: 0 means that no walk ever leaves; 254, that a shortest walk that leaves has so many steps, from that place;
--- and of the marks what they mean after either. Any other number is a refusal's, 1 to 20.
-pub record WalkPromise (s : Source) (M : List ℕ) (number steps place : ℕ) : Type 0 where
+-- and of the marks what they mean after either. Any other number is a refusal's, 1 to top.
+pub record WalkPromise (top : ℕ) (s : Source) (M : List ℕ) (number steps place : ℕ) : Type 0 where
   pub closed : number ≡ 0 → Promise s walked.Closed M
   pub leaves : number ≡ 254 → Promise s (walked.Leaves steps place) M
-  pub refused : (number ≡ 0 → ⊥) → (number ≡ 254 → ⊥) → number ≤ 20
+  pub refused : (number ≡ 0 → ⊥) → (number ≡ 254 → ⊥) → number ≤ top
 
 -- whether an object is lent for lent code, 0 if not, and its number
 abbrev pub poolObject : ℕ → ℕ → PoolObject

@@ -1,6 +1,6 @@
-// The calls for C and Rust: numbers and lent bytes in, one number out. 0 is an answer, 1 to 23 a refusal's number, 255 the end of the
+// The calls for C and Rust: numbers and lent bytes in, one number out. 0 is an answer, 1 to 25 a refusal's number, 255 the end of the
 // code, 254 a walk that leaves. The place, or the answer's length, is written behind a pointer. All that is lent to a call is a parameter of its
-// own, and so is each number of its answer: the calls on lent code have twelve or thirteen parameters.
+// own, and so is each number of its answer: the calls on lent code have up to thirteen parameters.
 
 use decoder::Outcome;
 use function::PoolObject;
@@ -18,7 +18,7 @@ ghost use Rattle.bytecode.specs.Decode.{decodeOne};
 ghost use Rattle.bytecode.specs.Numbers.{decodedNumbers};
 ghost use Rattle.jumps.specs.Jumps.{targetCall, entryCall};
 ghost use Rattle.jumps.specs.Numbers.{targetNumbers, entryNumbers};
-ghost use Rattle.walk.specs.Walk.{objectSource, walkCall, lentSource, walkLent};
+ghost use Rattle.walk.specs.Walk.{Given, givenOf, objectSource, objectWith, walkCall, walkWith, lentSource, lentWith, walkLent, walkLentWith};
 ghost use Rattle.capi.specs.Told.{writtenTold, bufferTold, noOpcode, writeNumbers, WriteReads, walkNumbers, walkTold, WalkPromise, poolObject, numbersTold, decodeTold};
 
 // The listing of an object into `out`: its length in `place`, or the refusal's place, with `out` as it was.
@@ -129,7 +129,7 @@ pub extern "C" fn jscd_walk(
     ensures { λ r. let f : Files = filesOf (now (opcodes .entry)) (now (types .entry)) (now (runtime .entry)) (now (intrinsic .entry))
         (now (layout .entry)) (now (objects .entry)) (now (slots .entry)) (now (payload .entry)) in
         ⌜ ((r, now (steps .exit), now (place .exit), now (marks .exit)) ≡ walkTold (walkCall f object (now (marks .entry))))
-        × WalkPromise (objectSource f object) (now (marks .exit)) r (now (steps .exit)) (now (place .exit)) ⌝ }
+        × WalkPromise 20 (objectSource f object) (now (marks .exit)) r (now (steps .exit)) (now (place .exit)) ⌝ }
 {
     let walked = walk::walk(
         marks,
@@ -142,6 +142,45 @@ pub extern "C" fn jscd_walk(
         slots,
         payload,
         object,
+    );
+    tell_walked(walked, steps, place)
+}
+
+// The same with what is lent beside: handler records.
+#[no_mangle]
+pub extern "C" fn jscd_walk_with(
+    marks: &mut [u8],
+    opcodes: &[u8],
+    types: &[u8],
+    runtime: &[u8],
+    intrinsic: &[u8],
+    layout: &[u8],
+    objects: &[u8],
+    slots: &[u8],
+    payload: &[u8],
+    object: usize,
+    handlers: &[u8],
+    steps: &mut usize,
+    place: &mut usize,
+) -> u8
+    ensures { λ r. let f : Files = filesOf (now (opcodes .entry)) (now (types .entry)) (now (runtime .entry)) (now (intrinsic .entry))
+        (now (layout .entry)) (now (objects .entry)) (now (slots .entry)) (now (payload .entry)) in
+        let g : Given = givenOf (now (handlers .entry)) in
+        ⌜ ((r, now (steps .exit), now (place .exit), now (marks .exit)) ≡ walkTold (walkWith f g object (now (marks .entry))))
+        × WalkPromise 25 (objectWith f g object) (now (marks .exit)) r (now (steps .exit)) (now (place .exit)) ⌝ }
+{
+    let walked = walk::walk_with(
+        marks,
+        opcodes,
+        types,
+        runtime,
+        intrinsic,
+        layout,
+        objects,
+        slots,
+        payload,
+        object,
+        handlers,
     );
     tell_walked(walked, steps, place)
 }
@@ -166,7 +205,7 @@ pub extern "C" fn jscd_walk_code(
         (now (slots .entry)) (now (payload .entry)) in
         ⌜ ((r, now (steps .exit), now (place .exit), now (marks .exit))
         ≡ walkTold (walkLent f (poolObject lent object) (now (code .entry)) (now (marks .entry))))
-        × WalkPromise (lentSource f (poolObject lent object) (now (code .entry))) (now (marks .exit)) r (now (steps .exit)) (now (place .exit)) ⌝ }
+        × WalkPromise 20 (lentSource f (poolObject lent object) (now (code .entry))) (now (marks .exit)) r (now (steps .exit)) (now (place .exit)) ⌝ }
 {
     let pool = pool_object(lent, object);
     let walked = walk::walk_code(
@@ -179,6 +218,46 @@ pub extern "C" fn jscd_walk_code(
         slots,
         payload,
         pool,
+    );
+    tell_walked(walked, steps, place)
+}
+
+// The same with handler records.
+#[no_mangle]
+pub extern "C" fn jscd_walk_code_with(
+    marks: &mut [u8],
+    code: &[u8],
+    opcodes: &[u8],
+    types: &[u8],
+    layout: &[u8],
+    objects: &[u8],
+    slots: &[u8],
+    payload: &[u8],
+    lent: u8,
+    object: usize,
+    handlers: &[u8],
+    steps: &mut usize,
+    place: &mut usize,
+) -> u8
+    ensures { λ r. let f : Files = lentFiles (now (opcodes .entry)) (now (types .entry)) (now (layout .entry)) (now (objects .entry))
+        (now (slots .entry)) (now (payload .entry)) in
+        let g : Given = givenOf (now (handlers .entry)) in
+        ⌜ ((r, now (steps .exit), now (place .exit), now (marks .exit))
+        ≡ walkTold (walkLentWith f g (poolObject lent object) (now (code .entry)) (now (marks .entry))))
+        × WalkPromise 25 (lentWith f g (poolObject lent object) (now (code .entry))) (now (marks .exit)) r (now (steps .exit)) (now (place .exit)) ⌝ }
+{
+    let pool = pool_object(lent, object);
+    let walked = walk::walk_code_with(
+        marks,
+        code,
+        opcodes,
+        types,
+        layout,
+        objects,
+        slots,
+        payload,
+        pool,
+        handlers,
     );
     tell_walked(walked, steps, place)
 }

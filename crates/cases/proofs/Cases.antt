@@ -16,14 +16,15 @@ use Rattle.decoder.specs.Decode.{partsFrom, readParts, decodeAt}
 use Rattle.decoder.specs.Listed.{listFrom}
 use Rattle.bytecode.specs.Decode.{decodeOne}
 use Rattle.bytecode.specs.Texts.{paramName, regName, listName, operandText, instrName}
-use Rattle.flow.specs.Flow.{flowNames, flows, flowNumber, flowBy}
+use Rattle.flow.specs.Flow.{flowNames, flows, flowNumber, flowBy, isReturn}
 use Rattle.targets.specs.Targets.{poolElem, operandOf, indexOf, numberOf, distanceBy, jumpTarget, jumpTable, tableBy, sizedBy}
 use Rattle.lines.specs.Line.{operandsBy, lineBy}
 use Rattle.function.specs.Code.{switchCheck}
+use Rattle.handlers.specs.Handlers.{handlerAmong, checkHandlers}
 use Rattle.graph.specs.Graph.{isStart, exits, after, level, firstExit, finding, reached, marked, bits, markList}
 use Rattle.steps.specs.Steps.{entriesSteps, instrSteps, stepsAt, walkGraph}
 use Rattle.jumps.specs.Jumps.{targetOf, targetCall}
-use Rattle.walk.specs.Walk.{walkSource, walkLent}
+use Rattle.walk.specs.Walk.{walkSource, walkLentWith}
 use Rattle.sample.specs.Sample.{padded, opcode, typed, opcodes, types, four, fours, layout}
 use Rattle.walk.specs.declared.Walked.the-variants as walked-as
 use Rattle.cases.specs.Rows.{told, asked, rows}
@@ -35,8 +36,8 @@ pub cases : map told asked ≡ rows
 unfolding told asked rows opcodes opcode typed types padded four fours layout checkTable wholeRecords within firstFrom nameOk opcodeOk sizeFits sizeGood nameFits isNamed
     typeNames ranges rangeOf layoutOf decodeOne decodeAt headAt firstMarked readParts partsFrom width isList kinds kindOf ofKind interpret leAt modulo wrap32
     signed lineBy operandsBy hexByte hexDigit flatMap nameAt decimal lastDigits runtimeName paramName regName listName operandText instrName targetCall targetOf
-    flowNames flows flowNumber flowBy poolElem operandOf indexOf numberOf distanceBy jumpTarget jumpTable tableBy sizedBy walkLent walkSource listFrom
-    switchCheck walkGraph stepsAt instrSteps entriesSteps finding firstExit level after exits isStart markList marked reached bits
+    flowNames flows flowNumber flowBy isReturn poolElem operandOf indexOf numberOf distanceBy jumpTarget jumpTable tableBy sizedBy walkLentWith walkSource listFrom
+    switchCheck walkGraph stepsAt instrSteps entriesSteps handlerAmong checkHandlers finding firstExit level after exits isStart markList marked reached bits
 cases = refl
 
 -- 02, Wish 4: empty code is closed, and no mark is written, whatever the mark buffer
@@ -44,6 +45,6 @@ pub empty-cases : told (walks [] 0) ∷ told (walks [] 2) ∷ [] ≡ walked (wal
 unfolding told opcodes opcode typed types padded four fours layout checkTable wholeRecords within firstFrom nameOk opcodeOk sizeFits sizeGood nameFits isNamed
     typeNames ranges rangeOf layoutOf decodeOne decodeAt headAt firstMarked readParts partsFrom width isList kinds kindOf ofKind interpret leAt modulo wrap32
     signed lineBy operandsBy hexByte hexDigit flatMap nameAt decimal lastDigits runtimeName paramName regName listName operandText instrName targetCall targetOf
-    flowNames flows flowNumber flowBy poolElem operandOf indexOf numberOf distanceBy jumpTarget jumpTable tableBy sizedBy walkLent walkSource listFrom
-    switchCheck walkGraph stepsAt instrSteps entriesSteps finding firstExit level after exits isStart markList marked reached bits
+    flowNames flows flowNumber flowBy isReturn poolElem operandOf indexOf numberOf distanceBy jumpTarget jumpTable tableBy sizedBy walkLentWith walkSource listFrom
+    switchCheck walkGraph stepsAt instrSteps entriesSteps handlerAmong checkHandlers finding firstExit level after exits isStart markList marked reached bits
 empty-cases = refl

@@ -1,5 +1,6 @@
-// Both programs on files at their limit, beyond it, missing, or no files at all, on names of both kinds, on codes of document 01, on empty code and on
-// refused records. The file `args` has eight names for each set of files; where a file cannot be read nothing is printed, and so for a wrong number of arguments.
+// Both programs on files at their limit, beyond it, missing, or no files at all, on names of both kinds, on codes of document 01, on empty code, on
+// refused records and on handler records. The file `args` has eight names for each set of files, and behind them files of handler records; where a file cannot be
+// read nothing is printed, and so for a wrong number of arguments.
 use files::Program;
 use libc::STDOUT_FILENO;
 
@@ -7,8 +8,11 @@ fn main() {
     listings();
     limits();
     codes();
-    io::write_all(STDOUT_FILENO, b"list: 120 arguments\n");
+    handled();
+    io::write_all(STDOUT_FILENO, b"list: 129 arguments\n");
     files::run(Program::List);
+    io::write_all(STDOUT_FILENO, b"walk: 129 arguments\n");
+    files::run(Program::Walk);
 }
 
 fn listings() {
@@ -49,14 +53,36 @@ fn codes() {
     walk(b"walk: length 11, in no run\n", 113);
 }
 
+// One code with each file of handler records.
+fn handled() {
+    with(b"walk: 06 02 0b, a handler at 1\n", 121);
+    with(
+        b"walk: 06 02 0b, handlers at 1 and at 2, the last one at 2\n",
+        122,
+    );
+    with(b"walk: 06 02 0b, a handler at 1 of the Return alone\n", 123);
+    with(b"walk: 06 02 0b, the second record ends at 4\n", 124);
+    with(b"walk: 06 02 0b, 13 bytes of handlers\n", 125);
+    with(b"walk: 06 02 0b, handlers of 65,537 bytes\n", 126);
+    with(b"walk: 06 02 0b, no handlers in the file\n", 127);
+    with(b"walk: 06 02 0b, handlers missing\n", 128);
+    with(b"walk: 06 02 0b, handlers a folder\n", 129);
+}
+
 // The listing of the files from argument first on.
 fn list(title: &[u8], first: u8) {
     io::write_all(STDOUT_FILENO, title);
-    files::run_from(Program::List, first);
+    files::run_from(Program::List, first, 0);
 }
 
 // Their walk check.
 fn walk(title: &[u8], first: u8) {
     io::write_all(STDOUT_FILENO, title);
-    files::run_from(Program::Walk, first);
+    files::run_from(Program::Walk, first, 0);
+}
+
+// The walk check of 06 02 0b with the handler records of an argument.
+fn with(title: &[u8], handlers: u8) {
+    io::write_all(STDOUT_FILENO, title);
+    files::run_from(Program::Walk, 65, handlers);
 }

@@ -1,10 +1,11 @@
-// The programs' input and output: the eight record files are read, and the answer is printed. What is printed for eight files is the contract of
-// `answer`. No contract can say what is read or written: the other functions state only how much of a buffer counts.
+// The programs' input and output: the eight record files are read, and the answer is printed. What is printed for eight files, and handler records beside
+// them, is the contract of `answer`. No contract can say what is read or written: the other functions state only how much of a buffer counts.
 use libc::STDERR_FILENO;
 use libc::STDOUT_FILENO;
 ghost use mathlib.Core.Path.{_≡_};
 ghost use Rattle.io.specs.Counts.{Counts};
 ghost use Rattle.function.specs.Files.{filesOf};
+ghost use Rattle.walk.specs.Walk.{givenOf};
 ghost use Rattle.program.specs.Printed.{Printed};
 ghost use Rattle.files.specs.PrintedBy.{printedBy};
 
@@ -20,22 +21,60 @@ struct Loaded {
     size: usize,
 }
 
-// The whole program: the files are its arguments, in the order of document 01, or those of the usual names in the current folder.
+// The whole program: the files are its arguments, in the order of document 01, or those of the usual names in the current folder. The walk program takes
+// handler records in front of them: --handlers and a file.
 pub fn run(what: Program) {
     let count = os::arg_count();
-    if count == 9 {
-        run_from(what, 1);
-    } else if count == 1 {
-        run_from(what, 0);
+    if takes_handlers(what) {
+        run_by(what, count, 3, 2);
+    } else {
+        run_by(what, count, 1, 0);
+    }
+}
+
+// The program on so many arguments, of which the files are those from number first on.
+fn run_by(what: Program, count: usize, first: u8, handlers: u8) {
+    if count == first as usize + 8 {
+        run_from(what, first, handlers);
+    } else if count == first as usize {
+        run_from(what, 0, handlers);
     } else {
         usage(what);
     }
 }
 
-// The same for the eight arguments from number first on, or for the usual names where first is 0. A file's limit is 65,536 bytes; it has room
-// for one more, in which a longer file shows.
-pub fn run_from(what: Program, first: u8) {
-    let mut room = [0u8; 524296];
+// Whether the first argument is the walk program's option.
+fn takes_handlers(what: Program) -> bool {
+    match what {
+        Program::List => false,
+        Program::Walk => is_argument(1, b"--handlers"),
+    }
+}
+
+fn is_argument(i: usize, word: &[u8]) -> bool {
+    let mut path = io::buffer();
+    let n = os::arg(i, &mut path);
+    is_word(&path[..n], word)
+}
+
+fn is_word(s: &[u8], word: &[u8]) -> bool {
+    if s.len() != word.len() {
+        return false;
+    }
+    let mut i: usize = 0;
+    while i < s.len() {
+        if s[i] != word[i] {
+            return false;
+        }
+        i += 1;
+    }
+    true
+}
+
+// The same for the eight arguments from number first on, or for the usual names where first is 0; with the handler records of argument number handlers,
+// or with none where that is 0. A file's limit is 65,536 bytes; it has room for one more, in which a longer file shows.
+pub fn run_from(what: Program, first: u8, handlers: u8) {
+    let mut room = [0u8; 589833];
     let opcodes = load(true, first, 0, b"opcodes.bin", &mut room);
     let types = load(opcodes.good, first, 1, b"types.bin", &mut room);
     let runtime = load(types.good, first, 2, b"runtime.bin", &mut room);
@@ -44,7 +83,8 @@ pub fn run_from(what: Program, first: u8) {
     let objects = load(layout.good, first, 5, b"objects.bin", &mut room);
     let slots = load(objects.good, first, 6, b"slots.bin", &mut room);
     let payload = load(slots.good, first, 7, b"payload.bin", &mut room);
-    if !payload.good {
+    let records = load_given(payload.good, handlers, &mut room);
+    if !records.good {
         return;
     }
     print(
@@ -57,11 +97,12 @@ pub fn run_from(what: Program, first: u8) {
         file(&room, 5, objects.size),
         file(&room, 6, slots.size),
         file(&room, 7, payload.size),
+        file(&room, 8, records.size),
     );
 }
 
-// The contents of file i of the eight.
-fn file<'a>(room: &'a [u8; 524296], i: u8, size: usize) -> &'a [u8] {
+// The contents of file i of the eight, or of the handler records, which are file 8.
+fn file<'a>(room: &'a [u8; 589833], i: u8, size: usize) -> &'a [u8] {
     serializer::lent(room, i as usize * 65537, size)
 }
 
@@ -77,7 +118,7 @@ fn usage(what: Program) {
 fn put_name(what: Program) -> bool {
     match what {
         Program::List => io::write_all(STDERR_FILENO, b"jscd_list"),
-        Program::Walk => io::write_all(STDERR_FILENO, b"jscd_walk"),
+        Program::Walk => io::write_all(STDERR_FILENO, b"jscd_walk [--handlers FILE]"),
     }
 }
 
@@ -91,6 +132,7 @@ fn print(
     objects: &[u8],
     slots: &[u8],
     payload: &[u8],
+    handlers: &[u8],
 ) {
     let mut out = [0u8; 65536];
     let n = answer(
@@ -104,6 +146,7 @@ fn print(
         objects,
         slots,
         payload,
+        handlers,
     );
     if !io::write_all(STDOUT_FILENO, &out[..n]) {
         os::fail(b"standard output");
@@ -122,10 +165,11 @@ fn answer(
     objects: &[u8],
     slots: &[u8],
     payload: &[u8],
+    handlers: &[u8],
 ) -> usize
     ensures { λ r. ⌜ Printed (printedBy what
         (filesOf (now (opcodes .entry)) (now (types .entry)) (now (runtime .entry)) (now (intrinsic .entry)) (now (layout .entry))
-        (now (objects .entry)) (now (slots .entry)) (now (payload .entry)))) (now (out .entry)) (now (out .exit)) r ⌝ }
+        (now (objects .entry)) (now (slots .entry)) (now (payload .entry))) (givenOf (now (handlers .entry)))) (now (out .entry)) (now (out .exit)) r ⌝ }
 {
     match what {
         Program::List => program::list_text(
@@ -149,17 +193,39 @@ fn answer(
             objects,
             slots,
             payload,
+            handlers,
         ),
     }
 }
 
 // Reads file i of the eight, by its argument or by its usual name, where those before it were read.
-fn load(so_far: bool, first: u8, i: u8, name: &[u8], room: &mut [u8; 524296]) -> Loaded {
+fn load(so_far: bool, first: u8, i: u8, name: &[u8], room: &mut [u8; 589833]) -> Loaded {
     if so_far {
         load_at(first, i, name, room)
     } else {
         unread()
     }
+}
+
+// Reads the handler records, argument number i; none where that is 0.
+fn load_given(so_far: bool, i: u8, room: &mut [u8; 589833]) -> Loaded {
+    if !so_far {
+        return unread();
+    }
+    if i == 0 {
+        return Loaded {
+            good: true,
+            size: 0,
+        };
+    }
+    load_records(i, room)
+}
+
+fn load_records(i: u8, room: &mut [u8]) -> Loaded {
+    if room.len() < 589833 {
+        return unread();
+    }
+    load_argument(i as usize, &mut room[524296..589833])
 }
 
 fn load_at(first: u8, i: u8, name: &[u8], room: &mut [u8]) -> Loaded {

@@ -2,7 +2,7 @@
 use Prim.Native.Nat.{ℕ, _<_}
 use mathlib.Core.Path.{_≡_}
 use mathlib.Core.List.{List, [], _∷_, _++_}
-use mathlib.Core.Bool.{Bool, true, false}
+use mathlib.Core.Bool.{Bool, true, false, _||_}
 use lib.ListN.{getD, replicate}
 use Rattle.laws.specs.Ascii.{ascii}
 use Rattle.laws.specs.Scan.{firstFrom}
@@ -65,6 +65,10 @@ flowBy k = getD flows k (plain On false)
 -- the flow of an opcode
 abbrev pub flowOf : List ℕ → ℕ → Flow
 flowOf ops op = flowBy (flowNumber ops (opcodeStart op))
+
+-- V8: Bytecodes::Returns, RETURN_BYTECODE_LIST. 02, Wish 5: "except Return and SuspendGenerator", by name
+unfoldable pub isReturn : List ℕ → ℕ → Bool
+isReturn ops op = isNamed ops (opcodeStart op) opcodeNameSize (ascii "Return") || isNamed ops (opcodeStart op) opcodeNameSize (ascii "SuspendGenerator")
 
 -- the first n entries of a table are the numbers of the first n opcodes
 abbrev pub Numbered : List ℕ → List ℕ → ℕ → Type 0

@@ -2,10 +2,11 @@
 -- their records lie.
 use Prim.Native.Nat.{ℕ}
 use mathlib.Core.List.{List}
+use mathlib.Core.Bool.{Bool}
 use Rattle.tables.specs.Records.{opcodeCount, prefixMark, operandCount, typeCode, firstMarked}
 use Rattle.tables.specs.Texts.{opName}
 use Rattle.flow.specs.declared.Flow.{Flow}
-use Rattle.flow.specs.Flow.{flowOf}
+use Rattle.flow.specs.Flow.{flowOf, isReturn}
 
 pub record Opcodes : Type 0 where
   -- how many there are: an opcode is a number below it
@@ -20,6 +21,8 @@ pub record Opcodes : Type 0 where
   pub name : ℕ → List ℕ
   -- what an opcode does with the flow of control
   pub flow : ℕ → Flow
+  -- whether an opcode returns to the caller, so that no handler of its function is ever asked
+  pub returns : ℕ → Bool
 
 abbrev pub opcodesOf : List ℕ → Opcodes
 opcodesOf s = record {
@@ -29,6 +32,7 @@ opcodesOf s = record {
   code = typeCode s;
   name = opName s;
   flow = flowOf s;
+  returns = isReturn s;
 }
 
 -- the prefix opcode of a mark; of `opcodesOf s` it is tables' `prefixOp s`

@@ -5,7 +5,7 @@ ghost use Prim.Native.Nat.{ℕ, _+_, _%_, _<_};
 ghost use mathlib.Core.List.{List};
 ghost use Rattle.tables.specs.Records.{opcodeNameSize};
 ghost use Rattle.tables.specs.mirror.Rows.{rows};
-ghost use Rattle.flow.specs.Flow.{plain, flowNames, hasFlowName, flowNumber, flowBy, flowOf, Numbered};
+ghost use Rattle.flow.specs.Flow.{plain, flowNames, hasFlowName, flowNumber, flowBy, flowOf, isReturn, Numbered};
 ghost use Rattle.flow.specs.mirror.Index.{placeOf, Indexed};
 
 pub enum Kind {
@@ -45,6 +45,17 @@ pub fn flow_in(flows: &[u8], op: u8) -> Flow
     ensures { λ r. ⌜ ((ops : List ℕ) → Numbered ops (now (flows .entry)) 256 → r ≡ flowOf ops op) ⌝ }
 {
     flow_by(words::byte_at(flows, op as usize))
+}
+
+// Whether an opcode returns to the caller, by its name.
+pub fn is_return(opcodes: &[u8], op: u8) -> bool
+    ensures { λ r. ⌜ r ≡ isReturn (now (opcodes .entry)) op ⌝ }
+{
+    let at = tables::opcode_start(op);
+    if tables::name_is(opcodes, at, 40, b"Return") {
+        return true;
+    }
+    tables::name_is(opcodes, at, 40, b"SuspendGenerator")
 }
 
 // The number of each opcode's flow, for the first 256 opcodes.

@@ -34,7 +34,7 @@ use Rattle.function.specs.Pool.{poolOf}
 use Rattle.function.specs.Code.{headerCheck, headerAt, listingCheck}
 use Rattle.disasm.specs.Listing.{headerText, linesText, viewBy, listView, listHeader, listObject, listCall}
 use Rattle.walk.specs.declared.Walked.{Walked}
-use Rattle.walk.specs.Walk.{walkCheck, walkFound, walkSource, heldCheck, objectSource, Promise, walkCall}
+use Rattle.walk.specs.Walk.{walkCheck, walkFound, walkSource, heldCheck, Promise, Given, objectWith, walkWith}
 use Rattle.walk.proofs.Answers.{promise-unless}
 use Rattle.program.specs.Printed.{refusalText, withinLimit, limitCheck, limited, told, shown, Printed, walkText, walkLimited, walkAnswer, walkShown, WalkPrinted}
 use Rattle.walk.specs.declared.Walked.the-variants as walked
@@ -158,12 +158,12 @@ walk-once (Refused r) b M x = refl
 abbrev walkHeader : Files → Check
 walkHeader f = firstRefusal (headerCheck (headerAt f 0)) (heldCheck (headerAt f 0))
 
-pub walk-within : (f : Files) (M : List ℕ) → withinLimit (length (f .objects)) (length (f .slots)) (length (f .payload)) ≡ true → walkLimited f M ≡ walkCall f 0 M
-unfolding walkLimited walkCall
-walk-within f M h =
+pub walk-within : (f : Files) (g : Given) (M : List ℕ) → withinLimit (length (f .objects)) (length (f .slots)) (length (f .payload)) ≡ true → walkLimited f g M ≡ walkWith f g 0 M
+unfolding walkLimited walkWith
+walk-within f g M h =
     let t = checkTable (f .opcodes) (f .types) (f .runtime) (f .intrinsic) (f .layout) in
     let b = firstRefusal (checkStore (f .objects) (f .slots) (f .payload)) (checkCodeObject (f .objects) 0) in
-    let x = walkSource (objectSource f 0) M in
+    let x = walkSource (objectWith f g 0) M in
     rw (h, or-assoc t b (walkHeader f)) (walk-once t (firstRefusal b (walkHeader f)) M x)
 
 -- the answer depends on how many marks there are, not on what they are
@@ -174,34 +174,34 @@ unless-blind c c′ M M′ x x′ e h = rw e (go c′)
     go Ok = h
     go (Refused r) = refl
 
-pub walk-blind : (f : Files) (M : List ℕ) (n : ℕ) → length M ≡ n → walkLimited f M .0 ≡ walkAnswer f n
-unfolding walkAnswer walkLimited walkCall walkSource
-walk-blind f M n e =
+pub walk-blind : (f : Files) (g : Given) (M : List ℕ) (n : ℕ) → length M ≡ n → walkLimited f g M .0 ≡ walkAnswer f g n
+unfolding walkAnswer walkLimited walkWith walkSource
+walk-blind f g M n e =
     let M′ : List ℕ = replicate n 0 in
-    let s = objectSource f 0 in
+    let s = objectWith f g 0 in
     let same : length M ≡ length M′ = e ∙ sym (length-replicate {A = ℕ} n 0) in
     let c = firstRefusal (checkFiles f 0) (walkHeader f) in
-    unless-blind (limitCheck f) (limitCheck f) M M′ (walkCall f 0 M) (walkCall f 0 M′) refl
+    unless-blind (limitCheck f) (limitCheck f) M M′ (walkWith f g 0 M) (walkWith f g 0 M′) refl
     (unless-blind c c M M′ (walkSource s M) (walkSource s M′) refl
     (unless-blind (walkCheck s (length M)) (walkCheck s (length M′)) M M′ (walkFound s M) (walkFound s M′) (ap (walkCheck s) same) refl))
 
 -- files beyond the limit, and a table that is refused before
-module _ (f : Files) (n : ℕ) (beyond : withinLimit (length (f .objects)) (length (f .slots)) (length (f .payload)) ≡ false) where
-  pub walk-beyond : checkTable (f .opcodes) (f .types) (f .runtime) (f .intrinsic) (f .layout) ≡ Ok → walked.Refused (refusalAt 6 0) ≡ walkAnswer f n
+module _ (f : Files) (g : Given) (n : ℕ) (beyond : withinLimit (length (f .objects)) (length (f .slots)) (length (f .payload)) ≡ false) where
+  pub walk-beyond : checkTable (f .opcodes) (f .types) (f .runtime) (f .intrinsic) (f .layout) ≡ Ok → walked.Refused (refusalAt 6 0) ≡ walkAnswer f g n
   unfolding walkAnswer walkLimited
   walk-beyond e =
       let M : List ℕ = replicate n 0 in
       let b = withinLimit (length (f .objects)) (length (f .slots)) (length (f .payload)) in
       sym
-      (ap (λ (c : Check). guardedOn (firstRefusal c (refuseUnless b 6)) walked.Refused M (walkCall f 0 M) .0) e
-      ∙ ap (λ (x : Bool). guardedOn (refuseUnless x 6) walked.Refused M (walkCall f 0 M) .0) beyond)
+      (ap (λ (c : Check). guardedOn (firstRefusal c (refuseUnless b 6)) walked.Refused M (walkWith f g 0 M) .0) e
+      ∙ ap (λ (x : Bool). guardedOn (refuseUnless x 6) walked.Refused M (walkWith f g 0 M) .0) beyond)
 
-  pub walk-refused : (r : Refusal) → checkTable (f .opcodes) (f .types) (f .runtime) (f .intrinsic) (f .layout) ≡ Refused r → walked.Refused r ≡ walkAnswer f n
+  pub walk-refused : (r : Refusal) → checkTable (f .opcodes) (f .types) (f .runtime) (f .intrinsic) (f .layout) ≡ Refused r → walked.Refused r ≡ walkAnswer f g n
   unfolding walkAnswer walkLimited
   walk-refused r e =
       let M : List ℕ = replicate n 0 in
       let b = withinLimit (length (f .objects)) (length (f .slots)) (length (f .payload)) in
-      sym (ap (λ (c : Check). guardedOn (firstRefusal c (refuseUnless b 6)) walked.Refused M (walkCall f 0 M) .0) e)
+      sym (ap (λ (c : Check). guardedOn (firstRefusal c (refuseUnless b 6)) walked.Refused M (walkWith f g 0 M) .0) e)
 
 walk-line : (w : Walked) → length (walkText w) ≤ 64
 unfolding walkText
@@ -209,27 +209,27 @@ walk-line walked.Closed = omega arith
 walk-line (walked.Leaves n o) = rw (length-append, length-append, length-append, length-append) (omega (arith, digits-few n, digits-few o))
 walk-line (walked.Refused r) = line r
 
-pub walk-printed : (f : Files) (o : List ℕ) → length o ≡ 65536 → (w : Walked) → w ≡ walkAnswer f 65536 → {o′ : List ℕ} {n : ℕ} → Put o 0 (walkText w) o′ n → Printed (walkShown f) o o′ n
-walk-printed f o whole w e {o′} {n} p =
+pub walk-printed : (f : Files) (g : Given) (o : List ℕ) → length o ≡ 65536 → (w : Walked) → w ≡ walkAnswer f g 65536 → {o′ : List ℕ} {n : ℕ} → Put o 0 (walkText w) o′ n → Printed (walkShown f g) o o′ n
+walk-printed f g o whole w e {o′} {n} p =
     subst (λ (x : Walked). Printed (walkText x) o o′ n) e (printed (walkText w) o o′ n whole (omega (arith, walk-line w)) p)
 
 -- ---- demand 3
-call-promised : (f : Files) (M : List ℕ) → Promise (objectSource f 0) (walkCall f 0 M .0) (walkCall f 0 M .1)
-unfolding walkCall
-call-promised f M = promise-unless (objectSource f 0) (firstRefusal (checkFiles f 0) (walkHeader f)) M (refl, refl)
+call-promised : (f : Files) (g : Given) (M : List ℕ) → Promise (objectWith f g 0) (walkWith f g 0 M .0) (walkWith f g 0 M .1)
+unfolding walkWith
+call-promised f g M = promise-unless (objectWith f g 0) (firstRefusal (checkFiles f 0) (walkHeader f)) M (refl, refl)
 
-walk-promised : (f : Files) (M : List ℕ) → Promise (objectSource f 0) (walkLimited f M .0) (walkLimited f M .1)
+walk-promised : (f : Files) (g : Given) (M : List ℕ) → Promise (objectWith f g 0) (walkLimited f g M .0) (walkLimited f g M .1)
 unfolding walkLimited
-walk-promised f M = go (limitCheck f)
+walk-promised f g M = go (limitCheck f)
   where
-    go : (c : Check) → let x = guardedOn c walked.Refused M (walkCall f 0 M) in Promise (objectSource f 0) (x .0) (x .1)
-    go Ok = call-promised f M
+    go : (c : Check) → let x = guardedOn c walked.Refused M (walkWith f g 0 M) in Promise (objectWith f g 0) (x .0) (x .1)
+    go Ok = call-promised f g M
     go (Refused r) = tt
 
-answer-promised : (f : Files) → Promise (objectSource f 0) (walkAnswer f 65536) (walkLimited f (replicate 65536 0) .1)
+answer-promised : (f : Files) (g : Given) → Promise (objectWith f g 0) (walkAnswer f g 65536) (walkLimited f g (replicate 65536 0) .1)
 unfolding walkAnswer
-answer-promised f = walk-promised f (replicate 65536 0)
+answer-promised f g = walk-promised f g (replicate 65536 0)
 
-pub walk-printed-promised : (f : Files) (o : List ℕ) → length o ≡ 65536 → (w : Walked) → w ≡ walkAnswer f 65536 → {o′ : List ℕ} {n : ℕ} → Put o 0 (walkText w) o′ n → WalkPrinted f o o′ n
-walk-printed-promised f o whole w e p =
-    record { text = walk-printed f o whole w e p; marks = walkLimited f (replicate 65536 0) .1; promise = answer-promised f }
+pub walk-printed-promised : (f : Files) (g : Given) (o : List ℕ) → length o ≡ 65536 → (w : Walked) → w ≡ walkAnswer f g 65536 → {o′ : List ℕ} {n : ℕ} → Put o 0 (walkText w) o′ n → WalkPrinted f g o o′ n
+walk-printed-promised f g o whole w e p =
+    record { text = walk-printed f g o whole w e p; marks = walkLimited f g (replicate 65536 0) .1; promise = answer-promised f g }

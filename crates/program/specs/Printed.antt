@@ -17,7 +17,7 @@ use Rattle.function.specs.Files.{Files}
 use Rattle.disasm.specs.Listing.{listCall}
 use Rattle.walk.specs.declared.Walked.{Walked}
 use Rattle.walk.specs.declared.Walked.the-variants as walked
-use Rattle.walk.specs.Walk.{objectSource, Promise, walkCall}
+use Rattle.walk.specs.Walk.{Promise, Given, objectWith, walkWith}
 
 -- "Either prints a refusal as `refused 14 at 1`"
 unfoldable pub refusalText : Refusal → List ℕ
@@ -54,17 +54,17 @@ walkText walked.Closed = ascii "closed\n"
 walkText (walked.Leaves n o) = ascii "leaves steps " ++ decimal n ++ ascii " from " ++ decimal o ++ ascii "\n"
 walkText (walked.Refused r) = refusalText r
 
--- The walks of object 0 with the marks M.
-unfoldable pub walkLimited : Files → List ℕ → Walked × List ℕ
-walkLimited f M = guardedOn (limitCheck f) walked.Refused M (walkCall f 0 M)
+-- The walks of object 0 with the marks M. A file of handler records that is beyond the limit has too many of them, number 24, by itself.
+unfoldable pub walkLimited : Files → Given → List ℕ → Walked × List ℕ
+walkLimited f g M = guardedOn (limitCheck f) walked.Refused M (walkWith f g 0 M)
 
 -- The answer with n marks, which are zeros here; that what they were before makes no difference is the contract of `walk_text`.
-unfoldable pub walkAnswer : Files → ℕ → Walked
-walkAnswer f n = walkLimited f (replicate n 0) .0
+unfoldable pub walkAnswer : Files → Given → ℕ → Walked
+walkAnswer f g n = walkLimited f g (replicate n 0) .0
 
 -- what the walk program prints: it lends 65,536 marks, as many as a code has bytes at most
-abbrev pub walkShown : Files → List ℕ
-walkShown f = walkText (walkAnswer f 65536)
+abbrev pub walkShown : Files → Given → List ℕ
+walkShown f g = walkText (walkAnswer f g 65536)
 
 -- What a program that prints the text t leaves: its buffer of 65,536 bytes was o and is o′. The first r bytes are t, and the others are as
 -- they were.
@@ -75,7 +75,7 @@ pub record Printed (t o o′ : List ℕ) (r : ℕ) : Type 0 where
 
 -- Demand 3 of the walk program: what it prints is the line of an answer that promises of object 0 what the walk check does, with marks that the
 -- program keeps to itself.
-pub record WalkPrinted (f : Files) (o o′ : List ℕ) (r : ℕ) : Type 0 where
-  pub text : Printed (walkShown f) o o′ r
+pub record WalkPrinted (f : Files) (g : Given) (o o′ : List ℕ) (r : ℕ) : Type 0 where
+  pub text : Printed (walkShown f g) o o′ r
   pub marks : List ℕ
-  pub promise : Promise (objectSource f 0) (walkAnswer f 65536) marks
+  pub promise : Promise (objectWith f g 0) (walkAnswer f g 65536) marks

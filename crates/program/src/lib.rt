@@ -10,6 +10,7 @@ ghost use Rattle.text.specs.Put.{Put};
 ghost use Rattle.text.specs.mirror.Written.{WrittenBy};
 ghost use Rattle.function.specs.Files.{filesOf};
 ghost use Rattle.walk.specs.declared.Walked.the-variants as walked;
+ghost use Rattle.walk.specs.Walk.{givenOf};
 ghost use Rattle.program.specs.Printed.{refusalText, withinLimit, limited, shown, Printed, walkText, walkAnswer, WalkPrinted};
 
 // The line `refused 14 at 1`.
@@ -95,7 +96,8 @@ fn list_limited(
     }
 }
 
-// What `jscd_walk` prints, from the start of the buffer on: the answer of the walk check on object 0, or the line of its refusal.
+// What `jscd_walk` prints, from the start of the buffer on: the answer of the walk check on object 0 with handler records, which may be none, or the
+// line of its refusal.
 pub fn walk_text(
     out: &mut [u8; 65536],
     opcodes: &[u8],
@@ -106,10 +108,11 @@ pub fn walk_text(
     objects: &[u8],
     slots: &[u8],
     payload: &[u8],
+    handlers: &[u8],
 ) -> usize
     ensures { λ r. ⌜ WalkPrinted
         (filesOf (now (opcodes .entry)) (now (types .entry)) (now (runtime .entry)) (now (intrinsic .entry)) (now (layout .entry))
-        (now (objects .entry)) (now (slots .entry)) (now (payload .entry))) (now (out .entry)) (now (out .exit)) r ⌝ }
+        (now (objects .entry)) (now (slots .entry)) (now (payload .entry))) (givenOf (now (handlers .entry))) (now (out .entry)) (now (out .exit)) r ⌝ }
 {
     let walked = walk_marked(
         opcodes,
@@ -120,6 +123,7 @@ pub fn walk_text(
         objects,
         slots,
         payload,
+        handlers,
     );
     put_walked(out, 0, walked)
 }
@@ -156,10 +160,11 @@ fn walk_marked(
     objects: &[u8],
     slots: &[u8],
     payload: &[u8],
+    handlers: &[u8],
 ) -> Walked
     ensures { λ r. ⌜ r ≡ walkAnswer
         (filesOf (now (opcodes .entry)) (now (types .entry)) (now (runtime .entry)) (now (intrinsic .entry)) (now (layout .entry))
-        (now (objects .entry)) (now (slots .entry)) (now (payload .entry))) 65536 ⌝ }
+        (now (objects .entry)) (now (slots .entry)) (now (payload .entry))) (givenOf (now (handlers .entry))) 65536 ⌝ }
 {
     let mut marks = [0u8; 65536];
     walk_limited(
@@ -172,6 +177,7 @@ fn walk_marked(
         objects,
         slots,
         payload,
+        handlers,
     )
 }
 
@@ -186,13 +192,14 @@ fn walk_limited(
     objects: &[u8],
     slots: &[u8],
     payload: &[u8],
+    handlers: &[u8],
 ) -> Walked
     ensures { λ r. ⌜ r ≡ walkAnswer
         (filesOf (now (opcodes .entry)) (now (types .entry)) (now (runtime .entry)) (now (intrinsic .entry)) (now (layout .entry))
-        (now (objects .entry)) (now (slots .entry)) (now (payload .entry))) (length (now (marks .entry))) ⌝ }
+        (now (objects .entry)) (now (slots .entry)) (now (payload .entry))) (givenOf (now (handlers .entry))) (length (now (marks .entry))) ⌝ }
 {
     if within_limit(objects.len(), slots.len(), payload.len()) {
-        return walk::walk(
+        return walk::walk_with(
             marks,
             opcodes,
             types,
@@ -203,6 +210,7 @@ fn walk_limited(
             slots,
             payload,
             0,
+            handlers,
         );
     }
     match tables::check_table(opcodes, types, runtime, intrinsic, layout) {

@@ -1,11 +1,14 @@
 // Replays the recorded walks: each is asked of our own walk check, and answers and marks are compared.
 mod answers;
 mod each;
+mod handled;
 mod shown;
+mod tries;
 mod walks;
 
 use vectors::counts::Counts;
 use vectors::counts::Outcome;
+use vectors::counts::UNKNOWN;
 use vectors::counts::counted;
 use vectors::counts::judged;
 use vectors::counts::no_counts;
@@ -29,7 +32,7 @@ use vectors::lines::print_wrong;
 use vectors::lines::read;
 
 fn main() {
-    print_total(both(walks_1(), both(walks_2(), walks_3())));
+    print_total(both(walks_1(), both(walks_2(), both(walks_3(), walks_4()))));
     print_wrong(rewalk(b"wrong.vec", false));
 }
 
@@ -54,6 +57,31 @@ fn walks_3() -> Total {
     );
     let few = rewalk(b"walk-few.vec", false);
     both(v8, few)
+}
+
+// With handler records.
+fn walks_4() -> Total {
+    let handlers = rewalk(b"walk-handlers.vec", true);
+    let v8 = both(retry(b"walk-tries.vec"), retry(b"walk-tries-v8.vec"));
+    both(handlers, v8)
+}
+
+// A file of real functions with handlers: beside the comparison it is said how many handlers are reached.
+fn retry(name: &[u8]) -> Total {
+    let mut buffer = [0u8; 1048576];
+    retry_in(name, &mut buffer)
+}
+
+fn retry_in(name: &[u8], buffer: &mut [u8; 1048576]) -> Total {
+    retry_with(name, buffer)
+}
+
+fn retry_with(name: &[u8], buffer: &mut [u8]) -> Total {
+    let len = read(name, buffer);
+    let whole = Part { at: 0, len };
+    let total = print_counts(name, ask_file(lent(buffer, whole), false));
+    tries::print(tries::of_file(lent(buffer, whole)));
+    total
 }
 
 // A file, in a buffer that is longer than any of them; its named walks are printed, or not.
@@ -126,6 +154,32 @@ fn counts_call(
             let after = counted(counts, f, judged(each::last_bytes(bytes, files, call)));
             with_codes(after, words::u32_at(call, 8) as u64 * 256)
         }
-        _ => counted(counts, f, Outcome::Differs),
+        _ => counts_with(bytes, files, counts, f, call, number),
+    }
+}
+
+// The same with handler records, in rows of their own.
+fn counts_with(
+    bytes: &[u8],
+    files: Files,
+    counts: Counts,
+    f: u8,
+    call: &[u8],
+    number: u64,
+) -> Counts {
+    match f {
+        27 => {
+            let after = counted(counts, 30, judged(handled::of_object(bytes, files, call)));
+            counted(after, 35, judged(handled::for_c(bytes, files, call)))
+        }
+        28 => {
+            let after = counted(
+                counts,
+                31,
+                judged(handled::of_code(bytes, files, call, number)),
+            );
+            counted(after, 36, judged(handled::code_for_c(bytes, files, call)))
+        }
+        _ => counted(counts, UNKNOWN, Outcome::Differs),
     }
 }

@@ -1,4 +1,4 @@
-// Prints what the walk check says of the calls of walk-1.vec that have a name.
+// Prints what the walk check says of the calls of walk-1.vec that have a name, and of the first ones of walk-handlers.vec.
 use libc::STDOUT_FILENO;
 use vectors::items::Part;
 use vectors::items::lent;
@@ -25,6 +25,39 @@ fn print_name(number: u64) -> bool {
         1218..=1221 => put(b"switch of 4096 and 4097 entries under a prefix"),
         _ => false,
     }
+}
+
+// One of the three calls of each row with handlers: the code, its records, and the answer.
+pub fn show_with(number: u64, code: &[u8], handlers: &[u8], walked: Walked) {
+    if number != 0 && number <= 36 && number % 3 == 2 {
+        io::write_all(STDOUT_FILENO, b"row");
+        print_code(code);
+        print_records(handlers);
+        print_walked(walked);
+    }
+}
+
+// Start, end and handler of each.
+fn print_records(handlers: &[u8]) {
+    let count = handlers.len() / 12;
+    let mut at: usize = 0;
+    let mut k: usize = 0;
+    while k < count {
+        print_record(lent(handlers, Part { at, len: 12 }));
+        at = text::saturating_add(at, 12);
+        k += 1;
+    }
+}
+
+fn print_record(record: &[u8]) {
+    print_field(b", ", words::u32_at(record, 0));
+    print_field(b"-", words::u32_at(record, 4));
+    print_field(b" to ", words::u32_at(record, 8));
+}
+
+fn print_field(before: &[u8], field: u32) {
+    io::write_all(STDOUT_FILENO, before);
+    io::print_decimal(STDOUT_FILENO, field as u64);
 }
 
 fn put(name: &[u8]) -> bool {

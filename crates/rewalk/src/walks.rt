@@ -53,7 +53,7 @@ pub fn first<'a>(marks: &'a mut [u8], n: usize) -> &'a mut [u8] {
 }
 
 // The length of object 0's code, 0 where it is refused.
-fn code_len(bytes: &[u8], files: Files) -> usize {
+pub fn code_len(bytes: &[u8], files: Files) -> usize {
     let header = header::header_at(
         file(bytes, files, 5),
         file(bytes, files, 6),
@@ -105,7 +105,7 @@ fn for_c_in(bytes: &[u8], files: Files, call: &[u8], buffer: &mut [u8]) -> bool 
 }
 
 // Steps are 0 unless a walk leaves, and the place too where all are closed.
-fn is_told(status: u8, steps: usize, place: usize) -> bool {
+pub fn is_told(status: u8, steps: usize, place: usize) -> bool {
     match status {
         0 => steps == 0 && place == 0,
         254 => true,
@@ -113,7 +113,7 @@ fn is_told(status: u8, steps: usize, place: usize) -> bool {
     }
 }
 
-fn told(status: u8, steps: usize, place: usize) -> Walked {
+pub fn told(status: u8, steps: usize, place: usize) -> Walked {
     match status {
         0 => Walked::Closed,
         254 => Walked::Leaves(steps, place),
@@ -182,7 +182,7 @@ fn code_for_c_in(bytes: &[u8], files: Files, call: &[u8], buffer: &mut [u8]) -> 
 }
 
 // Whether an object is lent.
-fn lent_of(object: u64) -> u8 {
+pub fn lent_of(object: u64) -> u8 {
     if object == NO_OBJECT { 0 } else { 1 }
 }
 
@@ -200,7 +200,7 @@ pub fn walk_code(bytes: &[u8], files: Files, object: u64, code: &[u8], marks: &m
     )
 }
 
-fn pool_object(object: u64) -> PoolObject {
+pub fn pool_object(object: u64) -> PoolObject {
     if object == NO_OBJECT {
         return PoolObject::Nothing;
     }

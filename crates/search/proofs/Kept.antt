@@ -16,7 +16,7 @@ use Rattle.graph.specs.Graph.{Graph, Good, Step, isStart, stepLeaves, isTo, exi
 use Rattle.graph.specs.Graph.Step.{To, NoTarget}
 use Rattle.graph.proofs.Alike.{Alike, same-start, rising-same, finding-alike, marks-alike}
 use Rattle.search.specs.declared.Searched.{Searched}
-use Rattle.search.specs.mirror.Kept.{sizeOf, hereOf, countOf, entriesFrom, onSteps, keptSteps, wordOf, places, keptGraph, offHeads, IsFound}
+use Rattle.search.specs.mirror.Kept.{sizeOf, hereOf, countOf, entriesFrom, onSteps, catchSteps, keptSteps, wordOf, places, keptGraph, offHeads, IsFound}
 use Rattle.search.proofs.Laws.{any-append, any-same, elem-places, kept-good, leaves-is, inside, on-yes, on-no, target-yes, target-no, table-yes, table-no}
 
 -- ---- steps that do the same over the heads: they go to the same places, and both leave or neither does
@@ -37,19 +37,26 @@ module _ {heads : List ℕ} where
       both : (p : Step → Bool) → any p l ≡ any p l′ → any p m ≡ any p m′ → any p (l ++ m) ≡ any p (l′ ++ m′)
       both p x y = any-append p l m ∙ ap (λ (b : Bool). b || any p m) x ∙ ap (λ (b : Bool). any p l′ || b) y ∙ sym (any-append p l′ m′)
 
+-- a place, and one that is no higher than b: beyond the heads neither is a start
+pub same-low : (heads : List ℕ) (b : ℕ) → length heads ≤ b → (u : ℕ) → Same heads (To u ∷ []) (To (min u b) ∷ [])
+same-low heads b small u = ⊎-elim
+    (λ h. same-steps (ap (λ (x : ℕ). To x ∷ []) (let z : u ≡ min u b = omega (arith, h) in z)))
+    (λ h. record {
+      goes = λ t l. ap (λ (x : Bool). x || any (isTo t) []) (ne-eqb t u (λ e. omega (arith, e, h, l, small)) ∙ sym (ne-eqb t (min u b) (λ e. omega (arith, e, h, l, small))));
+      leaves = ap (λ (x : Bool). x || any (offHeads heads) []) (no-head u (omega (arith, h, small)) ∙ sym (no-head (min u b) (omega (arith, h, small))));
+    })
+    (under? u b)
+  where
+    no-head : (t : ℕ) → length heads ≤ t → eqb (getD heads t 0) 0 ≡ true
+    no-head t h = eq-eqb (getD heads t 0) 0 (List·getD-eq-default heads 0 h)
+
 -- a step by its word: a place too high for one is no start, as is the place that keeps "no target"
 module _ (heads : List ℕ) (small : length heads ≤ 4294967295) where
   no-head : (t : ℕ) → 4294967295 ≤ t → eqb (getD heads t 0) 0 ≡ true
   no-head t h = eq-eqb (getD heads t 0) 0 (List·getD-eq-default heads 0 (omega (arith, small, h)))
 
   pub same-word : (s : Step) → Same heads (s ∷ []) (To (wordOf s) ∷ [])
-  same-word (To u) = ⊎-elim
-      (λ h. same-steps (ap (λ (x : ℕ). To x ∷ []) (let z : u ≡ min u 4294967295 = omega (arith, h) in z)))
-      (λ h. record {
-        goes = λ t l. ap (λ (b : Bool). b || any (isTo t) []) (ne-eqb t u (λ e. omega (arith, e, h, l, small)) ∙ sym (ne-eqb t (min u 4294967295) (λ e. omega (arith, e, h, l, small))));
-        leaves = ap (λ (b : Bool). b || any (offHeads heads) []) (no-head u h ∙ sym (no-head (min u 4294967295) (omega (arith, h))));
-      })
-      (under? u 4294967295)
+  same-word (To u) = same-low heads 4294967295 small u
   same-word NoTarget = record {
     goes = λ t l. ap (λ (b : Bool). b || any (isTo t) []) (sym (ne-eqb t 4294967295 (λ e. omega (arith, e, l, small))));
     leaves = ap (λ (b : Bool). b || any (offHeads heads) []) (sym (no-head 4294967295 (omega arith)));
@@ -92,29 +99,29 @@ module _ (el : ℕ → Elem) (words : List ℕ) (o size : ℕ) (small : size < 2
         size-is = omega (arith, small)
 
 -- ---- the graph that is kept
-module _ (el : ℕ → Elem) (heads words : List ℕ) (g : Graph) (G : Good g) where
+module _ (el : ℕ → Elem) (heads words catches : List ℕ) (g : Graph) (G : Good g) where
   -- the heads stand just at the starts
   pub kept-starts : ((t : ℕ) → isStart g t ≡ not (eqb (getD heads t 0) 0)) → g .starts ≡ places 0 heads
   unfolding isStart keptGraph
-  kept-starts h = rising-same 0 (g .starts) (places 0 heads) (G .rising) (kept-good el heads words .rising) (λ t. h t ∙ sym (elem-places heads t))
+  kept-starts h = rising-same 0 (g .starts) (places 0 heads) (G .rising) (kept-good el heads words catches .rising) (λ t. h t ∙ sym (elem-places heads t))
 
-  module _ (starts : g .starts ≡ places 0 heads) (steps : (o : ℕ) → isStart g o ≡ true → Same heads (g .steps o) (keptSteps el words o (getD heads o 0))) where
-    is-start : (t : ℕ) → isStart g t ≡ isStart (keptGraph el heads words) t
+  module _ (starts : g .starts ≡ places 0 heads) (steps : (o : ℕ) → isStart g o ≡ true → Same heads (g .steps o) (catchSteps catches o ++ keptSteps el words o (getD heads o 0))) where
+    is-start : (t : ℕ) → isStart g t ≡ isStart (keptGraph el heads words catches) t
     unfolding keptGraph
-    is-start t = same-start g (keptGraph el heads words) starts t
+    is-start t = same-start g (keptGraph el heads words catches) starts t
 
     off : (s : Step) → stepLeaves g s ≡ offHeads heads s
-    off (To t) = ap not (is-start t) ∙ leaves-is el heads words (To t)
+    off (To t) = ap not (is-start t) ∙ leaves-is el heads words catches (To t)
     off NoTarget = refl
 
-    pub kept-alike : Alike g (keptGraph el heads words)
+    pub kept-alike : Alike g (keptGraph el heads words catches)
     unfolding keptGraph exits
     kept-alike = record {
       starts = starts;
-      goes = λ o t h i. steps o h .goes t (inside el heads words t (sym (is-start t) ∙ i));
-      leaves = λ o h. any-same (stepLeaves g) off (g .steps o) ∙ steps o h .leaves ∙ sym (any-same (stepLeaves (keptGraph el heads words)) (leaves-is el heads words) (keptSteps el words o (getD heads o 0)));
+      goes = λ o t h i. steps o h .goes t (inside el heads words catches t (sym (is-start t) ∙ i));
+      leaves = λ o h. any-same (stepLeaves g) off (g .steps o) ∙ steps o h .leaves ∙ sym (any-same (stepLeaves (keptGraph el heads words catches)) (leaves-is el heads words catches) (catchSteps catches o ++ keptSteps el words o (getD heads o 0)));
     }
 
     -- so what is found of the kept graph is found of it
-    pub kept-found : (n : ℕ) (r : Searched) (M : List ℕ) → IsFound (keptGraph el heads words) n r M → IsFound g n r M
+    pub kept-found : (n : ℕ) (r : Searched) (M : List ℕ) → IsFound (keptGraph el heads words catches) n r M → IsFound g n r M
     kept-found n r M f = (f .0 ∙ sym (finding-alike G kept-alike), f .1 ∙ sym (marks-alike G kept-alike n))

@@ -22,7 +22,7 @@ use Rattle.graph.proofs.Queues.{zero-at, grown-none, grown-join, grown-same}
 use Rattle.graph.proofs.Answers.{found}
 use Rattle.targets.specs.Targets.{smiOf, targetFrom}
 use Rattle.search.specs.declared.Searched.{Searched}
-use Rattle.search.specs.mirror.Kept.{sizeOf, hereOf, countOf, shown, entriesFrom, targetSteps, tableSteps, onSteps, places, keptGraph, offHeads, Goes, Below, findingAs, IsFound}
+use Rattle.search.specs.mirror.Kept.{sizeOf, hereOf, countOf, shown, entriesFrom, targetSteps, tableSteps, onSteps, catchSteps, places, keptGraph, offHeads, Goes, Below, findingAs, IsFound}
 use Rattle.targets.specs.declared.Target.the-variants as target
 
 -- ---- tests on lists
@@ -82,9 +82,9 @@ elem-places S t = go (headless S t) refl (either (elem t (places 0 S)))
     go true h (inr x) = x
     go false h x = let z : 0 + t ≡ t = omega arith in subst (λ (y : ℕ). elem y (places 0 S) ≡ true) z (places-yes 0 t S h)
 
-module _ (el : ℕ → Elem) (heads words : List ℕ) where
+module _ (el : ℕ → Elem) (heads words catches : List ℕ) where
   abbrev g : Graph
-  g = keptGraph el heads words
+  g = keptGraph el heads words catches
 
   pub kept-good : Good g
   unfolding keptGraph
@@ -111,23 +111,31 @@ module _ (el : ℕ → Elem) (heads words : List ℕ) where
   leaves-is NoTarget = refl
 
   module _ (o h : ℕ) (is : h ≡ getD heads o 0) where
-    steps-are : g .steps o ≡ (targetSteps words o h ++ tableSteps el words o h) ++ onSteps o h
+    steps-are : g .steps o ≡ catchSteps catches o ++ ((targetSteps words o h ++ tableSteps el words o h) ++ onSteps o h)
     unfolding keptGraph
-    steps-are = ap (λ (x : ℕ). (targetSteps words o x ++ tableSteps el words o x) ++ onSteps o x) (sym is)
+    steps-are = ap (λ (x : ℕ). catchSteps catches o ++ ((targetSteps words o x ++ tableSteps el words o x) ++ onSteps o x)) (sym is)
 
     -- a test on all steps, part by part, in the order in which the code asks
-    parts : (p : Step → Bool) → any p (g .steps o) ≡ (any p (onSteps o h) || (any p (targetSteps words o h) || any p (tableSteps el words o h)))
+    parts : (p : Step → Bool) → any p (g .steps o) ≡ (any p (onSteps o h) || (any p (targetSteps words o h) || (any p (catchSteps catches o) || any p (tableSteps el words o h))))
     parts p =
-        ap (any p) steps-are ∙ any-append p (targetSteps words o h ++ tableSteps el words o h) (onSteps o h)
-        ∙ ap (λ (b : Bool). b || any p (onSteps o h)) (any-append p (targetSteps words o h) (tableSteps el words o h)) ∙ turned (any p (targetSteps words o h) || any p (tableSteps el words o h)) (any p (onSteps o h))
+        ap (any p) steps-are ∙ any-append p (catchSteps catches o) ((targetSteps words o h ++ tableSteps el words o h) ++ onSteps o h)
+        ∙ ap (λ (b : Bool). any p (catchSteps catches o) || b) (any-append p (targetSteps words o h ++ tableSteps el words o h) (onSteps o h))
+        ∙ ap (λ (b : Bool). any p (catchSteps catches o) || (b || any p (onSteps o h))) (any-append p (targetSteps words o h) (tableSteps el words o h))
+        ∙ turned (any p (catchSteps catches o)) (any p (targetSteps words o h)) (any p (tableSteps el words o h)) (any p (onSteps o h))
       where
-        turned : (a b : Bool) → (a || b) ≡ (b || a)
-        turned true true = refl
-        turned true false = refl
-        turned false true = refl
-        turned false false = refl
+        turned : (c t e n : Bool) → (c || ((t || e) || n)) ≡ (n || (t || (c || e)))
+        turned true true e true = refl
+        turned true true e false = refl
+        turned true false e true = refl
+        turned true false e false = refl
+        turned false true e true = refl
+        turned false true e false = refl
+        turned false false true true = refl
+        turned false false true false = refl
+        turned false false false true = refl
+        turned false false false false = refl
 
-    exits-by : exits g o ≡ (any (offHeads heads) (onSteps o h) || (any (offHeads heads) (targetSteps words o h) || any (offHeads heads) (tableSteps el words o h)))
+    exits-by : exits g o ≡ (any (offHeads heads) (onSteps o h) || (any (offHeads heads) (targetSteps words o h) || (any (offHeads heads) (catchSteps catches o) || any (offHeads heads) (tableSteps el words o h))))
     unfolding exits
     exits-by = any-same (stepLeaves g) leaves-is (g .steps o) ∙ parts (offHeads heads)
 
@@ -137,8 +145,12 @@ module _ (el : ℕ → Elem) (heads words : List ℕ) where
     pub exits-target : any (offHeads heads) (targetSteps words o h) ≡ true → exits g o ≡ true
     exits-target e = exits-by ∙ or-right (any (offHeads heads) (onSteps o h)) (or-left _ e)
 
-    pub exits-table : any (offHeads heads) (onSteps o h) ≡ false → any (offHeads heads) (targetSteps words o h) ≡ false → exits g o ≡ any (offHeads heads) (tableSteps el words o h)
-    exits-table a b = rw (exits-by, a, b)
+    pub exits-catch : any (offHeads heads) (catchSteps catches o) ≡ true → exits g o ≡ true
+    exits-catch e = exits-by ∙ or-right (any (offHeads heads) (onSteps o h)) (or-right (any (offHeads heads) (targetSteps words o h)) (or-left _ e))
+
+    pub exits-table : any (offHeads heads) (onSteps o h) ≡ false → any (offHeads heads) (targetSteps words o h) ≡ false → any (offHeads heads) (catchSteps catches o) ≡ false
+        → exits g o ≡ any (offHeads heads) (tableSteps el words o h)
+    exits-table a b d = rw (exits-by, a, b, d)
 
     -- ---- the steps of an instruction of which none leaves
     module _ (quiet : exits g o ≡ false) where
@@ -157,14 +169,20 @@ module _ (el : ℕ → Elem) (heads words : List ℕ) where
       target-goes : (t : ℕ) → Goes (targetSteps words o h) t → Goes (g .steps o) t
       target-goes t e = parts (isTo t) ∙ or-right (any (isTo t) (onSteps o h)) (or-left _ e)
 
+      catch-goes : (t : ℕ) → Goes (catchSteps catches o) t → Goes (g .steps o) t
+      catch-goes t e = parts (isTo t) ∙ or-right (any (isTo t) (onSteps o h)) (or-right (any (isTo t) (targetSteps words o h)) (or-left _ e))
+
       table-goes : (t : ℕ) → Goes (tableSteps el words o h) t → Goes (g .steps o) t
-      table-goes t e = parts (isTo t) ∙ or-right (any (isTo t) (onSteps o h)) (or-right (any (isTo t) (targetSteps words o h)) e)
+      table-goes t e = parts (isTo t) ∙ or-right (any (isTo t) (onSteps o h)) (or-right (any (isTo t) (targetSteps words o h)) (or-right (any (isTo t) (catchSteps catches o)) e))
 
       pub on-below : (n : ℕ) → n ≡ length heads → Below (onSteps o h) n
       on-below n e t x = omega (arith, inside t (goes-start t (on-goes t x)), e)
 
       pub target-below : (n : ℕ) → n ≡ length heads → Below (targetSteps words o h) n
       target-below n e t x = omega (arith, inside t (goes-start t (target-goes t x)), e)
+
+      pub catch-below : (n : ℕ) → n ≡ length heads → Below (catchSteps catches o) n
+      catch-below n e t x = omega (arith, inside t (goes-start t (catch-goes t x)), e)
 
       pub table-below : (n : ℕ) → n ≡ length heads → Below (tableSteps el words o h) n
       table-below n e t x = omega (arith, inside t (goes-start t (table-goes t x)), e)
@@ -176,19 +194,22 @@ module _ (el : ℕ → Elem) (heads words : List ℕ) where
       from-succ t s = among-any (isTo t) (s .among) (s .goes)
 
       -- pushed part by part
-      pub grown-parts : {q q₁ q₂ q₃ M₁ M₂ M₃ : List ℕ} {k k₁ k₂ k₃ : ℕ} → Grown q k M₁ q₁ k₁ (Goes (onSteps o h)) → Grown q₁ k₁ M₂ q₂ k₂ (Goes (targetSteps words o h))
-          → Grown q₂ k₂ M₃ q₃ k₃ (Goes (tableSteps el words o h)) → Grown q k M₃ q₃ k₃ (Succ g o)
-      grown-parts a b c =
+      pub grown-parts : {q q₁ q₂ q₃ q₄ M₁ M₂ M₃ M₄ : List ℕ} {k k₁ k₂ k₃ k₄ : ℕ} → Grown q k M₁ q₁ k₁ (Goes (onSteps o h)) → Grown q₁ k₁ M₂ q₂ k₂ (Goes (targetSteps words o h))
+          → Grown q₂ k₂ M₃ q₃ k₃ (Goes (catchSteps catches o)) → Grown q₃ k₃ M₄ q₄ k₄ (Goes (tableSteps el words o h)) → Grown q k M₄ q₄ k₄ (Succ g o)
+      grown-parts a b c d =
           let ab = grown-join {P = λ (t : ℕ). (any (isTo t) (onSteps o h) || any (isTo t) (targetSteps words o h)) ≡ true} a b (λ t x. or-left _ x) (λ t x. or-right (any (isTo t) (onSteps o h)) x) (λ t x. or-either _ _ x) in
-          grown-join ab c
-          (λ t x. to-succ t (⊎-elim (on-goes t) (target-goes t) (or-either _ _ x)))
+          let abc = grown-join {P = λ (t : ℕ). ((any (isTo t) (onSteps o h) || any (isTo t) (targetSteps words o h)) || any (isTo t) (catchSteps catches o)) ≡ true} ab c (λ t x. or-left _ x)
+          (λ t x. or-right (any (isTo t) (onSteps o h) || any (isTo t) (targetSteps words o h)) x) (λ t x. or-either _ _ x) in
+          grown-join abc d
+          (λ t x. to-succ t (⊎-elim (λ y. ⊎-elim (on-goes t) (target-goes t) (or-either _ _ y)) (catch-goes t) (or-either _ _ x)))
           (λ t x. to-succ t (table-goes t x))
-          (λ t s. split (any (isTo t) (onSteps o h)) (any (isTo t) (targetSteps words o h)) (sym (parts (isTo t)) ∙ from-succ t s))
+          (λ t s. split (any (isTo t) (onSteps o h)) (any (isTo t) (targetSteps words o h)) (any (isTo t) (catchSteps catches o)) (sym (parts (isTo t)) ∙ from-succ t s))
         where
-          split : (a b : Bool) {c : Bool} → (a || (b || c)) ≡ true → ((a || b) ≡ true) ⊎ (c ≡ true)
-          split true b e = inl refl
-          split false true e = inl refl
-          split false false e = inr e
+          split : (a b c : Bool) {d : Bool} → (a || (b || (c || d))) ≡ true → (((a || b) || c) ≡ true) ⊎ (d ≡ true)
+          split true b c e = inl refl
+          split false true c e = inl refl
+          split false false true e = inl refl
+          split false false false e = inr e
 
 -- nothing is pushed for no steps
 pub grown-nothing : {M q : List ℕ} {k : ℕ} (l : List Step) → l ≡ [] → Held M q k → Grown q k M q k (Goes l)
@@ -203,7 +224,16 @@ grown-one l t e i G =
 pub below-one : {l : List Step} {n : ℕ} (t u : ℕ) → l ≡ To t ∷ [] → u ≡ t → Below l n → u < n
 below-one {l} t u e i b = omega (arith, i, b t (ap (any (isTo t)) e ∙ or-left _ (eq-eqb t t refl)))
 
--- ---- the parts, by the head
+-- ---- the parts, by the head and by the handler
+module _ (catches : List ℕ) (o : ℕ) {c : ℕ} (is : c ≡ getD catches o 0) where
+  pub catch-yes : (c ≡ 0 → ⊥) → catchSteps catches o ≡ To (c - 1) ∷ []
+  unfolding catchSteps
+  catch-yes e = rw (← is, ne-eqb c 0 e) refl
+
+  pub catch-no : c ≡ 0 → catchSteps catches o ≡ []
+  unfolding catchSteps
+  catch-no e = rw (← is, eq-eqb c 0 e) refl
+
 module _ (o h : ℕ) where
   pub on-yes : h / 256 % 2 ≡ 1 → onSteps o h ≡ To (o + sizeOf h) ∷ []
   unfolding onSteps
@@ -301,22 +331,22 @@ pub below-read : {l l′ : List Step} {n n′ : ℕ} → l ≡ l′ → n ≡ n�
 below-read {l′ = l′} {n = n} e i b t x = omega (arith, i, b t (ap (any (isTo t)) e ∙ x))
 
 -- ---- the answer
-module _ (el : ℕ → Elem) (heads words : List ℕ) where
+module _ (el : ℕ → Elem) (heads words catches : List ℕ) where
   -- where no instruction starts at 0, nothing is reached
-  not-reached : {m p : ℕ} → getD heads 0 0 ≡ 0 → Reach (keptGraph el heads words) m p → ⊥
-  not-reached e (here z) = clash (sym (start-is el heads words 0) ∙ z) (ap not (eq-eqb (getD heads 0 0) 0 e))
+  not-reached : {m p : ℕ} → getD heads 0 0 ≡ 0 → Reach (keptGraph el heads words catches) m p → ⊥
+  not-reached e (here z) = clash (sym (start-is el heads words catches 0) ∙ z) (ap not (eq-eqb (getD heads 0 0) 0 e))
   not-reached e (next r s) = not-reached e r
 
-  pub answered : (n : ℕ) (M : List ℕ) (r : Searched) → length M ≡ n → Answer (keptGraph el heads words) n M (findingAs r) → IsFound (keptGraph el heads words) n r M
-  answered n M r len a = found (kept-good el heads words) len a
+  pub answered : (n : ℕ) (M : List ℕ) (r : Searched) → length M ≡ n → Answer (keptGraph el heads words catches) n M (findingAs r) → IsFound (keptGraph el heads words catches) n r M
+  answered n M r len a = found (kept-good el heads words catches) len a
 
-  pub none-answered : (n : ℕ) (M : List ℕ) → M ≡ replicate n 0 → getD heads 0 0 ≡ 0 → Answer (keptGraph el heads words) n M closed
+  pub none-answered : (n : ℕ) (M : List ℕ) → M ≡ replicate n 0 → getD heads 0 0 ≡ 0 → Answer (keptGraph el heads words catches) n M closed
   none-answered n M clear e = record {
     claim = record { never = λ m p w. never w };
     marks = λ p l. inr (ap (λ (x : List ℕ). getD x p 0) clear ∙ zero-at n p, λ x. not-reached e (x .1));
   }
     where
-      never : {m p : ℕ} → Leaving (keptGraph el heads words) m p → ⊥
+      never : {m p : ℕ} → Leaving (keptGraph el heads words catches) m p → ⊥
       never (leave r x) = not-reached e r
 
 -- ---- a part of no step, or of one, at a place whose head was read

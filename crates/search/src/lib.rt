@@ -13,7 +13,7 @@ ghost use Rattle.graph.specs.Graph.{Answer, isStart, Succ, exits};
 ghost use Rattle.graph.specs.mirror.Queue.{Held, Grown, SuccIn, Quiet, Lowest, lowerOf};
 ghost use Rattle.targets.specs.Targets.{smiOf, targetFrom};
 ghost use Rattle.targets.specs.mirror.Search.{poolSearched, PoolBlocked};
-ghost use Rattle.search.specs.mirror.Kept.{sizeOf, hereOf, countOf, shown, entriesFrom, targetSteps, tableSteps, onSteps, graphBy};
+ghost use Rattle.search.specs.mirror.Kept.{sizeOf, hereOf, countOf, shown, entriesFrom, targetSteps, tableSteps, onSteps, catchSteps, graphBy};
 ghost use Rattle.search.specs.mirror.Kept.{offHeads, Goes, Below, foundAs, findingAs, Fits, IsFound};
 
 // Closed, or the steps of the shortest walk that leaves and the offset it leaves from.
@@ -36,11 +36,12 @@ pub fn search(
     pool: Pool,
     heads: &[u32],
     words: &[u32],
+    catches: &[u32],
     marks: &mut [u8],
     queue: &mut [u16],
 ) -> Searched
     ensures { λ r. ⌜ (Fits (now (heads .entry)) (now (marks .entry)) (now (queue .entry))
-        → IsFound (graphBy (now (slots .entry)) (now (payload .entry)) ts pool (now (heads .entry)) (now (words .entry)))
+        → IsFound (graphBy (now (slots .entry)) (now (payload .entry)) ts pool (now (heads .entry)) (now (words .entry)) (now (catches .entry)))
         (length (now (heads .entry))) r (now (marks .exit))) ⌝ }
 {
     let n = heads.len();
@@ -62,6 +63,7 @@ pub fn search(
         pool,
         heads,
         words,
+        catches,
         marks,
         queue,
     )
@@ -76,19 +78,31 @@ fn search_in(
     pool: Pool,
     heads: &[u32],
     words: &[u32],
+    catches: &[u32],
     marks: &mut [u8],
     queue: &mut [u16],
 ) -> Searched
     requires { ⌜ Fits (now heads) (now marks) (now queue)
         × PoolBlocked (now slots) ts pool (now blocks) ⌝ }
-    ensures { λ r. ⌜ IsFound (graphBy (now (slots .entry)) (now (payload .entry)) ts pool (now (heads .entry)) (now (words .entry)))
+    ensures { λ r. ⌜ IsFound (graphBy (now (slots .entry)) (now (payload .entry)) ts pool (now (heads .entry)) (now (words .entry)) (now (catches .entry)))
         (length (now (heads .entry))) r (now (marks .exit)) ⌝ }
 {
     clear(marks);
     if head_at(heads, 0) == 0 {
         return Searched::Closed;
     }
-    levels(slots, payload, blocks, ts, pool, heads, words, marks, queue)
+    levels(
+        slots,
+        payload,
+        blocks,
+        ts,
+        pool,
+        heads,
+        words,
+        catches,
+        marks,
+        queue,
+    )
 }
 
 // Level after level, until one has an entry that exits or nothing new is reached.
@@ -100,13 +114,14 @@ fn levels(
     pool: Pool,
     heads: &[u32],
     words: &[u32],
+    catches: &[u32],
     marks: &mut [u8],
     queue: &mut [u16],
 ) -> Searched
     requires { ⌜ Held (now marks) (now queue) 0 × (length (now marks) ≡ length (now heads))
-        × (isStart (graphBy (now slots) (now payload) ts pool (now heads) (now words)) 0 ≡ true)
+        × (isStart (graphBy (now slots) (now payload) ts pool (now heads) (now words) (now catches)) 0 ≡ true)
         × PoolBlocked (now slots) ts pool (now blocks) ⌝ }
-    ensures { λ r. ⌜ Answer (graphBy (now (slots .entry)) (now (payload .entry)) ts pool (now (heads .entry)) (now (words .entry)))
+    ensures { λ r. ⌜ Answer (graphBy (now (slots .entry)) (now (payload .entry)) ts pool (now (heads .entry)) (now (words .entry)) (now (catches .entry)))
         (length (now (heads .entry))) (now (marks .exit)) (findingAs r) ⌝ }
 {
     let mut lo = 0;
@@ -121,6 +136,7 @@ fn levels(
             pool,
             heads,
             words,
+            catches,
             queue,
             lo,
             hi,
@@ -137,6 +153,7 @@ fn levels(
             pool,
             heads,
             words,
+            catches,
             marks,
             queue,
             lo,
@@ -158,13 +175,14 @@ fn lowest(
     pool: Pool,
     heads: &[u32],
     words: &[u32],
+    catches: &[u32],
     queue: &[u16],
     lo: usize,
     hi: usize,
 ) -> Found
     requires { ⌜ (lo ≤ hi) × (hi ≤ length (now queue))
         × PoolBlocked (now slots) ts pool (now blocks) ⌝ }
-    ensures { λ r. ⌜ Lowest (graphBy (now (slots .entry)) (now (payload .entry)) ts pool (now (heads .entry)) (now (words .entry)))
+    ensures { λ r. ⌜ Lowest (graphBy (now (slots .entry)) (now (payload .entry)) ts pool (now (heads .entry)) (now (words .entry)) (now (catches .entry)))
         (now (queue .entry)) lo hi (foundAs r) ⌝ }
 {
     let mut i = lo;
@@ -172,7 +190,7 @@ fn lowest(
     while i < hi {
         let o = queue[i];
         i += 1;
-        if exits(slots, payload, blocks, ts, pool, heads, words, o) {
+        if exits(slots, payload, blocks, ts, pool, heads, words, catches, o) {
             f = lower(f, o);
         }
     }
@@ -203,16 +221,17 @@ fn push_level(
     pool: Pool,
     heads: &[u32],
     words: &[u32],
+    catches: &[u32],
     marks: &mut [u8],
     queue: &mut [u16],
     lo: usize,
     hi: usize,
 ) -> usize
     requires { ⌜ Held (now marks) (now queue) hi × (length (now marks) ≡ length (now heads)) × (lo ≤ hi)
-        × Quiet (graphBy (now slots) (now payload) ts pool (now heads) (now words)) (now queue) lo hi
+        × Quiet (graphBy (now slots) (now payload) ts pool (now heads) (now words) (now catches)) (now queue) lo hi
         × PoolBlocked (now slots) ts pool (now blocks) ⌝ }
     ensures { λ r. ⌜ Grown (now (queue .entry)) hi (now (marks .exit)) (now (queue .exit)) r
-        (SuccIn (graphBy (now (slots .entry)) (now (payload .entry)) ts pool (now (heads .entry)) (now (words .entry)))
+        (SuccIn (graphBy (now (slots .entry)) (now (payload .entry)) ts pool (now (heads .entry)) (now (words .entry)) (now (catches .entry)))
         (now (queue .entry)) lo hi) ⌝ }
 {
     let mut end = hi;
@@ -227,6 +246,7 @@ fn push_level(
             pool,
             heads,
             words,
+            catches,
             o,
             marks,
             queue,
@@ -246,16 +266,20 @@ fn exits(
     pool: Pool,
     heads: &[u32],
     words: &[u32],
+    catches: &[u32],
     o: u16,
 ) -> bool
     requires { ⌜ PoolBlocked (now slots) ts pool (now blocks) ⌝ }
-    ensures { λ r. ⌜ r ≡ exits (graphBy (now (slots .entry)) (now (payload .entry)) ts pool (now (heads .entry)) (now (words .entry))) o ⌝ }
+    ensures { λ r. ⌜ r ≡ exits (graphBy (now (slots .entry)) (now (payload .entry)) ts pool (now (heads .entry)) (now (words .entry)) (now (catches .entry))) o ⌝ }
 {
     let h = head_at(heads, o as usize);
     if on_leaves(heads, o, h) {
         return true;
     }
     if target_leaves(heads, words, o, h) {
+        return true;
+    }
+    if catch_leaves(heads, catches, o) {
         return true;
     }
     if h / 1024 % 2 == 1 {
@@ -283,6 +307,17 @@ fn target_leaves(heads: &[u32], words: &[u32], o: u16, h: u32) -> bool
         return head_at(heads, t as usize) == 0;
     }
     false
+}
+
+// Whether it has a handler where none starts.
+fn catch_leaves(heads: &[u32], catches: &[u32], o: u16) -> bool
+    ensures { λ r. ⌜ r ≡ any (offHeads (now (heads .entry))) (catchSteps (now (catches .entry)) o) ⌝ }
+{
+    let c = word_at(catches, o as usize);
+    if c == 0 {
+        return false;
+    }
+    head_at(heads, (c - 1) as usize) == 0
 }
 
 // Whether some entry of its table goes where none starts.
@@ -343,20 +378,22 @@ fn push_steps(
     pool: Pool,
     heads: &[u32],
     words: &[u32],
+    catches: &[u32],
     o: u16,
     marks: &mut [u8],
     queue: &mut [u16],
     tail: usize,
 ) -> usize
     requires { ⌜ Held (now marks) (now queue) tail × (length (now marks) ≡ length (now heads))
-        × (exits (graphBy (now slots) (now payload) ts pool (now heads) (now words)) o ≡ false)
+        × (exits (graphBy (now slots) (now payload) ts pool (now heads) (now words) (now catches)) o ≡ false)
         × PoolBlocked (now slots) ts pool (now blocks) ⌝ }
     ensures { λ r. ⌜ Grown (now (queue .entry)) tail (now (marks .exit)) (now (queue .exit)) r
-        (Succ (graphBy (now (slots .entry)) (now (payload .entry)) ts pool (now (heads .entry)) (now (words .entry))) o) ⌝ }
+        (Succ (graphBy (now (slots .entry)) (now (payload .entry)) ts pool (now (heads .entry)) (now (words .entry)) (now (catches .entry))) o) ⌝ }
 {
     let h = head_at(heads, o as usize);
     let a = push_on(o, h, marks, queue, tail);
-    let b = push_target(words, o, h, marks, queue, a);
+    let t = push_target(words, o, h, marks, queue, a);
+    let b = push_catch(catches, o, marks, queue, t);
     if h / 1024 % 2 == 1 {
         return push_table(
             slots,
@@ -403,6 +440,18 @@ fn push_target(
         return push(marks, queue, tail, t as usize);
     }
     tail
+}
+
+// Pushes its handler, if it has one.
+fn push_catch(catches: &[u32], o: u16, marks: &mut [u8], queue: &mut [u16], tail: usize) -> usize
+    requires { ⌜ Held (now marks) (now queue) tail × Below (catchSteps (now catches) o) (length (now marks)) ⌝ }
+    ensures { λ r. ⌜ Grown (now (queue .entry)) tail (now (marks .exit)) (now (queue .exit)) r (Goes (catchSteps (now (catches .entry)) o)) ⌝ }
+{
+    let c = word_at(catches, o as usize);
+    if c == 0 {
+        return tail;
+    }
+    push(marks, queue, tail, (c - 1) as usize)
 }
 
 // Pushes where the entries of its table go.

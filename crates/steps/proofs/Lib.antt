@@ -1,4 +1,5 @@
 pub mod Laws
 pub mod Same
 pub mod Listed
+pub mod Caught
 pub mod Keeps

@@ -2,7 +2,7 @@
 use Prim.Native.Nat.{ℕ, zero, suc, _<_, _≤_}
 use mathlib.Core.Path.{_≡_, refl, sym, ap, _∙_}
 use mathlib.Core.Bool.{Bool, true, false, cond}
-use mathlib.Core.List.{List, [], _∷_, map}
+use mathlib.Core.List.{List, [], _∷_, _++_, map}
 use mathlib.Core.Logic.{⊎-elim}
 use native.Mathlib.Omega.{arith}
 use borrow.Author.Tests.{eqb-true, eq-eqb}
@@ -18,7 +18,7 @@ use Rattle.decoder.specs.declared.Decoded.{Decoded}
 use Rattle.decoder.specs.Listed.{listOn, listFrom, decodes}
 use Rattle.decoder.proofs.Tiles.{Tiles, decode-says, list-tiles}
 use Rattle.flow.specs.Opcodes.{Opcodes, prefixWith}
-use Rattle.steps.specs.Steps.{Source, instrSteps, stepsAt, listing, offset, walkGraph}
+use Rattle.steps.specs.Steps.{Source, instrSteps, handlerSteps, stepsAt, listing, offset, walkGraph}
 
 -- an instruction starts where it was decoded
 pub own-offset : (code : List ℕ) (ops : Opcodes) (types : List ℕ) (rfs : ℤ) (at : ℕ)
@@ -45,7 +45,7 @@ module _ (s : Source) where
       go Outcome.Done e rest = (ap (λ (o : ℕ). dec o .instr) (own-offset (s .code) (s .opcodes) (s .types) (s .rfs) at e), rest)
 
   abbrev pub ownSteps : ℕ → List Step
-  ownSteps o = instrSteps (s .elem) (s .pooled) (s .opcodes .flow (dec o .instr .opcode)) (dec o .instr)
+  ownSteps o = handlerSteps s (dec o .instr) ++ instrSteps (s .elem) (s .pooled) (s .opcodes .flow (dec o .instr .opcode)) (dec o .instr)
 
   steps-own : (is : List Instr) (o : ℕ) → Own dec is → elem o (map offset is) ≡ true → stepsAt s is o ≡ ownSteps o
   unfolding stepsAt
@@ -53,7 +53,7 @@ module _ (s : Source) where
   steps-own (i ∷ is) o w e = go (eqb (i .offset) o) refl (steps-own is o (w .1))
     where
       steps : Instr → List Step
-      steps j = instrSteps (s .elem) (s .pooled) (s .opcodes .flow (j .opcode)) j
+      steps j = handlerSteps s j ++ instrSteps (s .elem) (s .pooled) (s .opcodes .flow (j .opcode)) j
 
       go : (b : Bool) → eqb (i .offset) o ≡ b → (elem o (map offset is) ≡ true → stepsAt s is o ≡ ownSteps o) → cond b (steps i) (stepsAt s is o) ≡ ownSteps o
       go true h rest = ap steps (sym (w .0) ∙ ap (λ (p : ℕ). dec p .instr) (eqb-true (i .offset) o h))

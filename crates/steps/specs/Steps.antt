@@ -1,7 +1,8 @@
--- The steps of an instruction. 01, "Walks": "From an instruction ending before e, by plain name: .."
+-- The steps of an instruction. 01, "Walks": "From an instruction ending before e, by plain name: .."; and 02's Wish 5, the step to a handler.
 use Prim.Native.Nat.{ℕ, zero, suc, _+_}
 use mathlib.Core.Bool.{Bool, cond}
 use mathlib.Core.List.{List, [], _∷_, _++_, map}
+use mathlib.Core.Option.{Option, none, some}
 use lib.Dec.{eqb}
 use lib.IntN.{ℤ}
 use Rattle.graph.specs.Graph.{Graph, Step}
@@ -12,6 +13,7 @@ use Rattle.flow.specs.Opcodes.{Opcodes}
 use Rattle.flow.specs.declared.Flow.{Flow}
 use Rattle.flow.specs.declared.Kind.{Kind}
 use Rattle.flow.specs.declared.Kind.the-variants.{On, Ends, Jumps, Branches, JumpsBack, Switch}
+use Rattle.handlers.specs.Handlers.{handlerAt}
 use Rattle.serializer.specs.declared.Elem.{Elem}
 use Rattle.targets.specs.Targets.{here, jumpTarget, jumpTable, entryAt}
 use Rattle.targets.specs.declared.Target.{Target}
@@ -22,7 +24,8 @@ use Rattle.targets.specs.declared.Table.the-variants as table
 use Rattle.targets.specs.declared.Entry.{Entry}
 use Rattle.targets.specs.declared.Entry.the-variants as entry
 
--- what walks come from: "the lent code, records and payload, never .. the marks"
+-- what walks come from: "the lent code, records and payload, never .. the marks"; and the
+-- handler records, where some are lent
 pub record Source : Type 0 where
   pub code : List ℕ
   pub opcodes : Opcodes
@@ -30,6 +33,7 @@ pub record Source : Type 0 where
   pub rfs : ℤ
   pub pooled : Bool
   pub elem : ℕ → Elem
+  pub handlers : List ℕ
 
 -- the step to a target; without one, "a step with no target"
 abbrev pub toTarget : Target → Step
@@ -80,10 +84,19 @@ onSteps flow i = onBy (flow .kind) (i .end)
 unfoldable pub instrSteps : (ℕ → Elem) → Bool → Flow → Instr → List Step
 instrSteps el pooled flow i = jumpSteps el pooled flow i ++ onSteps flow i
 
+-- 02, Wish 5: "a walk may also go to the handler"; "An instruction that ends a walk still has this step, except Return and SuspendGenerator." The
+-- instruction's offset is its prefix's, where it has one.
+abbrev pub toHandler : Option ℕ → List Step
+toHandler none = []
+toHandler (some t) = To t ∷ []
+
+abbrev pub handlerSteps : Source → Instr → List Step
+handlerSteps s i = cond (s .opcodes .returns (i .opcode)) [] (toHandler (handlerAt (s .handlers) (i .offset)))
+
 -- the steps from the listed instruction at o
 unfoldable pub stepsAt : Source → List Instr → ℕ → List Step
 stepsAt s [] o = []
-stepsAt s (i ∷ is) o = cond (eqb (i .offset) o) (instrSteps (s .elem) (s .pooled) (s .opcodes .flow (i .opcode)) i) (stepsAt s is o)
+stepsAt s (i ∷ is) o = cond (eqb (i .offset) o) (handlerSteps s i ++ instrSteps (s .elem) (s .pooled) (s .opcodes .flow (i .opcode)) i) (stepsAt s is o)
 
 -- "Listed instructions are decoded from byte 0 of non-empty code, each where the last ended, to its end."
 abbrev pub listing : Source → Listing

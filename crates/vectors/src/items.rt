@@ -16,13 +16,13 @@ pub struct Item {
     pub next: usize,
 }
 
-// Where in the vector file the eight record files and the lent code (8) are.
+// Where in the vector file the eight record files, the lent code (8) and the handler records (9) are.
 pub struct Files {
-    pub at: [usize; 9],
-    pub len: [usize; 9],
+    pub at: [usize; 10],
+    pub len: [usize; 10],
 }
 
-// What an item is: it sets a file or the code, it is a call of a function, or neither.
+// What an item is: it sets a file, the code or the handlers, it is a call of a function, or neither.
 pub enum What {
     Sets,
     Call(u8),
@@ -69,8 +69,8 @@ fn cut(size: usize) -> Item
 
 // No file has contents.
 pub fn no_files() -> Files {
-    let at = [0usize; 9];
-    let len = [0usize; 9];
+    let at = [0usize; 10];
+    let len = [0usize; 10];
     Files { at, len }
 }
 
@@ -78,8 +78,8 @@ pub fn kind_of(item: Item) -> What {
     let kind = item.kind;
     let body = item.body;
     match kind {
-        0..=8 => What::Sets,
-        16..=24 => {
+        0..=9 => What::Sets,
+        16..=25 => {
             if body.len == 8 {
                 What::Sets
             } else {
@@ -96,8 +96,8 @@ pub fn files_after(bytes: &[u8], files: Files, item: Item) -> Files {
     let kind = item.kind;
     let body = item.body;
     match kind {
-        0..=8 => with_file(files, kind, body),
-        16..=24 => with_file(files, kind - 16, named_part(bytes, body)),
+        0..=9 => with_file(files, kind, body),
+        16..=25 => with_file(files, kind - 16, named_part(bytes, body)),
         _ => files,
     }
 }
@@ -114,7 +114,7 @@ fn named_part(bytes: &[u8], body: Part) -> Part {
 fn with_file(files: Files, k: u8, part: Part) -> Files {
     let mut out = files;
     let i = k as usize;
-    if i < 9 {
+    if i < 10 {
         out.at[i] = part.at;
         out.len[i] = part.len;
     }
@@ -124,7 +124,7 @@ fn with_file(files: Files, k: u8, part: Part) -> Files {
 // The contents of file k.
 pub fn file<'a>(bytes: &'a [u8], files: Files, k: u8) -> &'a [u8] {
     let i = k as usize;
-    if i < 9 {
+    if i < 10 {
         let part = Part {
             at: files.at[i],
             len: files.len[i],

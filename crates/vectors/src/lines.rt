@@ -110,7 +110,8 @@ fn print_name(row: u8) {
         0..=7 => print_read(row),
         8..=15 => print_code(row),
         16..=22 => print_whole(row),
-        _ => print_other(row),
+        23..=29 => print_other(row),
+        _ => print_later(row),
     }
 }
 
@@ -161,10 +162,20 @@ fn print_other(row: u8) {
         26 => put(b"jscd_write"),
         27 => put(b"jscd_list"),
         28 => put(b"jscd_walk"),
-        29 => put(b"jscd_decode"),
+        _ => put(b"jscd_decode"),
+    }
+}
+
+// Functions 27 and 28 are rows 30 and 31; then calls for C again.
+fn print_later(row: u8) {
+    match row {
+        30 => put(b"walk_with"),
+        31 => put(b"walk_code_with"),
         32 => put(b"jscd_walk_code"),
         33 => put(b"jscd_target"),
         34 => put(b"jscd_entry"),
+        35 => put(b"jscd_walk_with"),
+        36 => put(b"jscd_walk_code_with"),
         _ => put(b"unknown"),
     }
 }

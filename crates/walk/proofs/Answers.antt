@@ -1,14 +1,13 @@
 -- From what the search answers to the call's equation, and from the equation to demand 3. Assumes nothing.
-use Prim.Native.Nat.{ℕ, zero, suc, _<_, _≤_}
+use Prim.Native.Nat.{ℕ, zero, suc, _≤_}
 use mathlib.Core.Path.{_≡_, refl, sym, ap, subst, _∙_}
 use mathlib.Core.List.{List, _++_}
 use native.Mathlib.Omega.{arith}
-use borrow.Author.Tests.{le-leb, lt-leb}
 use lib.ListN.{length, drop}
 use Rattle.refusal.specs.declared.Refusal.{Refusal}
 use Rattle.refusal.specs.declared.Check.{Check}
 use Rattle.refusal.specs.declared.Check.the-variants.{Ok, Refused}
-use Rattle.refusal.specs.Check.{refusalAt, guardedOn}
+use Rattle.refusal.specs.Check.{guardedOn}
 use Rattle.decoder.specs.declared.Outcome.{Outcome}
 use Rattle.decoder.specs.declared.Decoded.{Decoded}
 use Rattle.decoder.specs.Listed.{listOn, listFrom, decodes}
@@ -20,7 +19,7 @@ use Rattle.graph.proofs.Answers.{computed}
 use Rattle.search.specs.declared.Searched.{Searched}
 use Rattle.search.specs.mirror.Kept.{keptGraph, findingAs, IsFound}
 use Rattle.steps.specs.Steps.{Source, listing, walkGraph}
-use Rattle.steps.specs.mirror.Keeping.{Keeps}
+use Rattle.steps.specs.mirror.Keeping.{Keeps, Catches}
 use Rattle.steps.proofs.Listed.{walk-good}
 use Rattle.steps.proofs.Keeps.{keeps-found}
 use Rattle.walk.specs.declared.Walked.{Walked}
@@ -51,25 +50,24 @@ module _ (s : Source) where
   pub ended : whole ≡ Ok → listing s .outcome ≡ Outcome.End
   ended ok = list-ends (decodes (s .code) (s .opcodes) (s .types) (s .rfs)) (suc (length (s .code))) 0 (no-fault ok)
 
-  -- ---- the call, by what the pass said
+  -- ---- the call, by what the checks said
   module _ (M : List ℕ) where
-    pub source-refused : (r : Refusal) → Refused r ≡ whole → WalkedBy (walkSource s M) (walked.Refused r) M
+    -- what a check leads to
+    abbrev Checked : Walked → List ℕ → Check → Type 0
+    Checked w M′ c = WalkedBy (guardedOn c walked.Refused M (walkFound s M)) w M′
+
+    pub source-refused : (r : Refusal) → Refused r ≡ walkCheck s (length M) → WalkedBy (walkSource s M) (walked.Refused r) M
     unfolding walkSource
-    source-refused r e = rw (sym e) (refl, refl)
+    source-refused r e = subst (Checked (walked.Refused r) M) e (refl, refl)
 
-    module _ (ok : Ok ≡ whole) where
-      pub source-short : length M < length (s .code) → WalkedBy (walkSource s M) (walked.Refused (refusalAt 18 0)) M
-      unfolding walkSource
-      source-short h = rw (sym ok, lt-leb (length (s .code)) (length M) h) (refl, refl)
-
-      -- marks Y were searched by themselves over the numbers that keep the code, and stand in front of the rest again
-      pub source-found : {heads words Y : List ℕ} {n : ℕ} (r : Searched) (w : Walked) → length (s .code) ≤ length M → length (s .code) ≤ 65536 → n ≡ length (s .code) → length heads ≡ n
-          → Keeps s heads words → IsFound (keptGraph (s .elem) heads words) n r Y → w ≡ answer (findingAs r) → WalkedBy (walkSource s M) w (Y ++ drop (length (s .code)) M)
-      unfolding walkSource
-      source-found {heads} {words} {Y} {n} r w h few all as-many k f is =
-          let x = keeps-found s heads words k few (omega (arith, few, all, as-many)) (ended (sym ok)) n r Y f in
-          rw (sym ok, le-leb (length (s .code)) (length M) h)
-          (is ∙ ap answer (x .0), ap (λ (y : List ℕ). y ++ drop (length (s .code)) M) (x .1 ∙ ap (markList (walkGraph s) (finding (walkGraph s))) all))
+    -- marks Y were searched by themselves over the numbers that keep the code, and stand in front of the rest again
+    pub source-found : (catches : List ℕ) {heads words Y : List ℕ} {n : ℕ} (r : Searched) (w : Walked) → Ok ≡ walkCheck s (length M) → length (s .code) ≤ 65536 → n ≡ length (s .code) → length heads ≡ n
+        → Keeps s heads words → Catches s catches → IsFound (keptGraph (s .elem) heads words catches) n r Y → w ≡ answer (findingAs r) → WalkedBy (walkSource s M) w (Y ++ drop (length (s .code)) M)
+    unfolding walkSource
+    source-found catches {heads} {words} {Y} {n} r w ok few all as-many k c f is =
+        let x = keeps-found s heads words catches k c few (omega (arith, few, all, as-many)) (ended (or-left whole _ (sym ok))) n r Y f in
+        subst (Checked w (Y ++ drop (length (s .code)) M)) ok
+        (is ∙ ap answer (x .0), ap (λ (y : List ℕ). y ++ drop (length (s .code)) M) (x .1 ∙ ap (markList (walkGraph s) (finding (walkGraph s))) all))
 
   -- ---- demand 3
   met : (M : List ℕ) (f : Finding) → Answer (walkGraph s) (length (s .code)) M f → Promise s (answer f) M

@@ -1,4 +1,4 @@
--- A refusal has one of 01's numbers, 1 to 20: so no refusal is told as "closed", "leaves" or "end". Assumes nothing.
+-- A refusal has one of 01's numbers, 1 to 20, or with handler records 1 to 25: so no refusal is told as "closed", "leaves" or "end". Assumes nothing.
 use Prim.Native.Nat.{ℕ, zero, suc, _+_, _/_, _≤_}
 use mathlib.Core.Path.{_≡_, refl, sym, subst}
 use mathlib.Core.Bool.{Bool, true, false, cond, not, _&&_, _||_}
@@ -46,38 +46,50 @@ use Rattle.graph.specs.Graph.Finding.{closed, leaves}
 use Rattle.steps.specs.Steps.{Source, listing, walkGraph}
 use Rattle.walk.specs.declared.Walked.{Walked}
 use Rattle.walk.specs.declared.Walked.the-variants as walked
-use Rattle.walk.specs.Walk.{answer, walkCheck, walkFound, walkSource, heldCheck, objectSource, walkCall, lentSource, walkLent}
+use Rattle.walk.specs.Walk.{answer, walkCheck, walkFound, walkSource, heldCheck, Given, plain, objectWith, walkWith, walkCall, lentWith, walkLentWith, walkLent}
+use Rattle.handlers.specs.Handlers.{handlerCount, handlersWhole, badHandler, checkHandlers}
 
-pub record Row (r : Refusal) : Type 0 where
+-- a number up to top
+pub record RowTo (top : ℕ) (r : Refusal) : Type 0 where
   pub least : 1 ≤ r .number
-  pub most : r .number ≤ 20
+  pub most : r .number ≤ top
+
+abbrev pub Row : Refusal → Type 0
+Row r = RowTo 20 r
 
 -- ---- checks
 refused-one : (r q : Refusal) → Refused r ≡ Refused q → r ≡ q
 refused-one r q e = cc
 
-pub record RowOf (c : Check) : Type 0 where
-  pub row : (r : Refusal) → c ≡ Refused r → Row r
+pub record RowsTo (top : ℕ) (c : Check) : Type 0 where
+  pub row : (r : Refusal) → c ≡ Refused r → RowTo top r
 
-no-row : RowOf Ok
+abbrev pub RowOf : Check → Type 0
+RowOf c = RowsTo 20 c
+
+no-row : {top : ℕ} → RowsTo top Ok
 no-row = record { row = λ r e. never r (sym e) }
 
-its-row : {r : Refusal} → Row r → RowOf (Refused r)
-its-row {r} h = record { row = λ q e. subst Row (refused-one r q e) h }
+its-row : {top : ℕ} {r : Refusal} → RowTo top r → RowsTo top (Refused r)
+its-row {top} {r} h = record { row = λ q e. subst (RowTo top) (refused-one r q e) h }
 
-either-row : {a b : Check} → RowOf a → RowOf b → RowOf (firstRefusal a b)
-either-row {a} {b} p q = go a p
+either-row : {top : ℕ} {a b : Check} → RowsTo top a → RowsTo top b → RowsTo top (firstRefusal a b)
+either-row {top} {a} {b} p q = go a p
   where
-    go : (a : Check) → RowOf a → RowOf (firstRefusal a b)
+    go : (a : Check) → RowsTo top a → RowsTo top (firstRefusal a b)
     go Ok p = q
     go (Refused r) p = p
 
-unless-row : (good : Bool) (n : ℕ) → 1 ≤ n → n ≤ 20 → RowOf (refuseUnless good n)
+unless-row : {top : ℕ} (good : Bool) (n : ℕ) → 1 ≤ n → n ≤ top → RowsTo top (refuseUnless good n)
 unless-row true n l h = no-row
 unless-row false n l h = its-row (record { least = l; most = h })
 
-bad-row : (n : ℕ) (bad : ℕ → Bool) (k : ℕ) → 1 ≤ n → n ≤ 20 → RowOf (firstBad n bad k)
-bad-row n bad k l h = by-test RowOf (ltb (firstFrom bad 0 k) k) (λ t. its-row (record { least = l; most = h })) (λ t. no-row)
+-- a lower bound is a higher one
+raised : {low top : ℕ} {c : Check} → low ≤ top → RowsTo low c → RowsTo top c
+raised h r = record { row = λ q e. record { least = r .row q e .least; most = omega (arith, h, r .row q e .most) } }
+
+bad-row : {top : ℕ} (n : ℕ) (bad : ℕ → Bool) (k : ℕ) → 1 ≤ n → n ≤ top → RowsTo top (firstBad n bad k)
+bad-row {top} n bad k l h = by-test (RowsTo top) (ltb (firstFrom bad 0 k) k) (λ t. its-row (record { least = l; most = h })) (λ t. no-row)
 
 -- a fault that is found has a number other than 0
 fault-row : (fault : ℕ → ℕ) (n : ℕ) → ((k : ℕ) → fault k ≤ 20) → RowOf (firstFault fault n)
@@ -198,39 +210,66 @@ switch-row ops pooled (i ∷ is) = either-row (go (jumpTable pooled (ops .flow (
     go (table.At e) = no-row
     go table.Refused = its-row (record { least = omega arith; most = omega arith })
 
--- ---- the calls
-abbrev pub WalkedRow : Walked → Type 0
-WalkedRow walked.Closed = Unit {0}
-WalkedRow (walked.Leaves n o) = Unit {0}
-WalkedRow (walked.Refused r) = Row r
-
-guarded-row : (c : Check) (M : List ℕ) (x : Walked × List ℕ) → RowOf c → WalkedRow (x .0) → WalkedRow (guardedOn c walked.Refused M x .0)
-guarded-row Ok M x r w = w
-guarded-row (Refused q) M x r w = r .row q refl
-
-source-row : (s : Source) (M : List ℕ) → WalkedRow (walkSource s M .0)
-unfolding walkSource
-source-row s M =
-    let n = length (s .code) in
-    let decoded = list-row (decodes (s .code) (s .opcodes) (s .types) (s .rfs)) (decode-row (s .code) (s .opcodes) (s .types) (s .rfs)) (suc n) 0 in
-    let room = unless-row (leb n (length M)) 18 (omega arith) (omega arith) in
-    guarded-row (walkCheck s (length M)) M (walkFound s M) (either-row (either-row decoded (switch-row (s .opcodes) (s .pooled) (listing s .instrs))) room) (found (finding (walkGraph s)))
-  where
-    found : (f : Finding) → WalkedRow (answer f)
-    found closed = tt
-    found (leaves n o) = tt
-
 held-row : (h : HeaderAnswer) → RowOf (heldCheck h)
 held-row (header-answer.At h) = unless-row (eqb (h .length) 0 || ltb 0 (h .«code_len»)) 19 (omega arith) (omega arith)
 held-row (header-answer.Refused r) = no-row
 
+-- ---- the handler records
+handlers-row : (hs : List ℕ) (n : ℕ) → RowsTo 25 (checkHandlers hs n)
+unfolding checkHandlers
+handlers-row hs n = either-row (unless-row (handlersWhole (length hs)) 24 (omega arith) (omega arith)) (bad-row 25 (badHandler hs n) (handlerCount hs) (omega arith) (omega arith))
+
+-- of none
+none-row : (n : ℕ) → RowOf (checkHandlers [] n)
+unfolding checkHandlers firstFrom
+none-row n = no-row
+
+-- ---- the calls
+abbrev pub WalkedTo : ℕ → Walked → Type 0
+WalkedTo top walked.Closed = Unit {0}
+WalkedTo top (walked.Leaves n o) = Unit {0}
+WalkedTo top (walked.Refused r) = RowTo top r
+
+abbrev pub WalkedRow : Walked → Type 0
+WalkedRow w = WalkedTo 20 w
+
+module _ {top : ℕ} (high : 20 ≤ top) where
+  guarded-row : (c : Check) (M : List ℕ) (x : Walked × List ℕ) → RowsTo top c → WalkedTo top (x .0) → WalkedTo top (guardedOn c walked.Refused M x .0)
+  guarded-row Ok M x r w = w
+  guarded-row (Refused q) M x r w = r .row q refl
+
+  source-row : (s : Source) (M : List ℕ) → RowsTo top (checkHandlers (s .handlers) (length (s .code))) → WalkedTo top (walkSource s M .0)
+  unfolding walkSource
+  source-row s M late =
+      let n = length (s .code) in
+      let decoded = list-row (decodes (s .code) (s .opcodes) (s .types) (s .rfs)) (decode-row (s .code) (s .opcodes) (s .types) (s .rfs)) (suc n) 0 in
+      let room = unless-row {top = top} (leb n (length M)) 18 (omega arith) (omega (arith, high)) in
+      guarded-row (walkCheck s (length M)) M (walkFound s M) (either-row (raised high (either-row decoded (switch-row (s .opcodes) (s .pooled) (listing s .instrs)))) (either-row room late)) (found (finding (walkGraph s)))
+    where
+      found : (f : Finding) → WalkedTo top (answer f)
+      found closed = tt
+      found (leaves n o) = tt
+
+  with-row : (f : Files) (g : Given) (k : ℕ) (M : List ℕ) → RowsTo top (checkHandlers (g .handlers) (length (objectWith f g k .code))) → WalkedTo top (walkWith f g k M .0)
+  unfolding walkWith
+  with-row f g k M late =
+      let h = headerAt f k in
+      guarded-row (firstRefusal (checkFiles f k) (firstRefusal (headerCheck h) (heldCheck h))) M (walkSource (objectWith f g k) M)
+      (raised high (either-row (files-row f k) (either-row (header-row f k) (held-row h)))) (source-row (objectWith f g k) M late)
+
+  lent-with-row : (f : Files) (g : Given) (w : PoolObject) (code M : List ℕ) → RowsTo top (checkHandlers (g .handlers) (length code)) → WalkedTo top (walkLentWith f g w code M .0)
+  unfolding walkLentWith
+  lent-with-row f g w code M late = guarded-row (checkLent f w code) M (walkSource (lentWith f g w code) M) (raised high (lent-row f w code)) (source-row (lentWith f g w code) M late)
+
+-- 1 to 20 without handlers, 1 to 25 with them
 pub walk-row : (f : Files) (k : ℕ) (M : List ℕ) → WalkedRow (walkCall f k M .0)
-unfolding walkCall
-walk-row f k M =
-    let h = headerAt f k in
-    guarded-row (firstRefusal (checkFiles f k) (firstRefusal (headerCheck h) (heldCheck h))) M (walkSource (objectSource f k) M)
-    (either-row (files-row f k) (either-row (header-row f k) (held-row h))) (source-row (objectSource f k) M)
+walk-row f k M = with-row (omega arith) f plain k M (none-row _)
+
+pub walk-with-row : (f : Files) (g : Given) (k : ℕ) (M : List ℕ) → WalkedTo 25 (walkWith f g k M .0)
+walk-with-row f g k M = with-row (omega arith) f g k M (handlers-row (g .handlers) _)
 
 pub walk-lent-row : (f : Files) (w : PoolObject) (code M : List ℕ) → WalkedRow (walkLent f w code M .0)
-unfolding walkLent
-walk-lent-row f w code M = guarded-row (checkLent f w code) M (walkSource (lentSource f w code) M) (lent-row f w code) (source-row (lentSource f w code) M)
+walk-lent-row f w code M = lent-with-row (omega arith) f plain w code M (none-row _)
+
+pub walk-lent-with-row : (f : Files) (g : Given) (w : PoolObject) (code M : List ℕ) → WalkedTo 25 (walkLentWith f g w code M .0)
+walk-lent-with-row f g w code M = lent-with-row (omega arith) f g w code M (handlers-row (g .handlers) _)

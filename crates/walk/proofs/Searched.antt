@@ -37,10 +37,10 @@ use Rattle.function.specs.mirror.Pool.{poolFound, lentFound}
 use Rattle.function.specs.mirror.Function.{functionOf}
 use Rattle.function.proofs.Searched.{header-found, pool-found, elems-found, lent-pool, lent-elems}
 use Rattle.walk.specs.declared.Walked.{Walked}
-use Rattle.walk.specs.Walk.{walkSource, heldCheck, objectSource, walkCall, lentSource, walkLent}
+use Rattle.walk.specs.Walk.{walkSource, heldCheck, Given, objectWith, walkWith, lentWith, walkLentWith}
 use Rattle.flow.specs.Opcodes.{opcodesOf}
 use Rattle.steps.specs.Steps.{Source}
-use Rattle.walk.specs.mirror.Search.{sourceOf, sourceBy, headerFound, WalkedBy, walkSearched}
+use Rattle.walk.specs.mirror.Search.{sourceOf, caughtBy, sourceBy, headerFound, WalkedBy, walkSearched}
 use Rattle.serializer.specs.declared.RawAt.the-variants as raw-at
 use Rattle.header.specs.declared.HeaderAnswer.the-variants as header-answer
 use Rattle.walk.specs.declared.Walked.the-variants as walked
@@ -74,14 +74,14 @@ code-short slots payload o l h e =
     omega (arith, length-take (h .«code_len») (drop (h .«code_at») payload), s)
 
 -- ---- an object
-module _ (f : Files) (M : List ℕ) where
+module _ (f : Files) (g : Given) (M : List ℕ) where
   abbrev walkBy : HeaderAnswer → Pool → (ℕ → Elem) → Walked × List ℕ
   walkBy h p el =
       let l = layoutOf (f .layout) in
-      guardedOn (firstRefusal (headerCheck h) (heldCheck h)) walked.Refused M (walkSource (record { code = codeOf f h; opcodes = opcodesOf (f .opcodes); types = f .types; rfs = l .frame .«reg_file_start»; pooled = found p; elem = el }) M)
+      guardedOn (firstRefusal (headerCheck h) (heldCheck h)) walked.Refused M (walkSource (record { code = codeOf f h; opcodes = opcodesOf (f .opcodes); types = f .types; rfs = l .frame .«reg_file_start»; pooled = found p; elem = el; handlers = g .handlers }) M)
 
-  pub walked-searched : (k : ℕ) → checkFiles f k ≡ Ok → walkSearched f (objectOf (f .objects) k) M ≡ walkCall f k M
-  unfolding walkSearched walkCall
+  pub walked-searched : (k : ℕ) → checkFiles f k ≡ Ok → walkSearched f g (objectOf (f .objects) k) M ≡ walkWith f g k M
+  unfolding walkSearched walkWith
   walked-searched k ok =
       let o = objectOf (f .objects) k in
       let l = layoutOf (f .layout) in
@@ -89,31 +89,31 @@ module _ (f : Files) (M : List ℕ) where
       ap (λ (x : HeaderAnswer). walkBy x p (poolSearched (f .slots) (f .payload) (l .«tagged_size») p)) (header-found f k ok)
       ∙ ap (λ (x : Pool). walkBy (headerAt f k) x (poolSearched (f .slots) (f .payload) (l .«tagged_size») x)) (pool-found f k ok)
       ∙ ap (λ (x : ℕ → Elem). walkBy (headerAt f k) (poolOf f o) x) (elems-found f k ok)
-      ∙ sym (ap (λ (c : Check). guardedOn (firstRefusal c (firstRefusal (headerCheck (headerAt f k)) (heldCheck (headerAt f k)))) walked.Refused M (walkSource (objectSource f k) M)) ok)
+      ∙ sym (ap (λ (c : Check). guardedOn (firstRefusal c (firstRefusal (headerCheck (headerAt f k)) (heldCheck (headerAt f k)))) walked.Refused M (walkSource (objectWith f g k) M)) ok)
 
 -- a header that was found, and its code
-module _ (f : Files) (o : Object) (code : List ℕ) (l : Layout) (h : Header) (e1 : l ≡ layoutOf (f .layout)) (e3 : headerSearched (f .slots) (f .payload) o l ≡ header-answer.At h)
+module _ (f : Files) (g : Given) (o : Object) (code : List ℕ) (l : Layout) (h : Header) (e1 : l ≡ layoutOf (f .layout)) (e3 : headerSearched (f .slots) (f .payload) o l ≡ header-answer.At h)
     (e4 : code ≡ take (h .«code_len») (drop (h .«code_at») (f .payload))) where
   pub object-short : length code ≤ 65536
   object-short = subst (λ (c : List ℕ). length c ≤ 65536) (sym e4) (code-short (f .slots) (f .payload) o l h e3)
 
   -- what is found once of it is u
   -- none holds it
-  pub object-unheld : (M : List ℕ) → (eqb (h .length) 0 || ltb 0 (h .«code_len»)) ≡ false → WalkedBy (walkSearched f o M) (walked.Refused (refusalAt 19 0)) M
+  pub object-unheld : (M : List ℕ) → (eqb (h .length) 0 || ltb 0 (h .«code_len»)) ≡ false → WalkedBy (walkSearched f g o M) (walked.Refused (refusalAt 19 0)) M
   unfolding walkSearched
   object-unheld M none =
       let at : headerFound f o ≡ header-answer.At h = ap (λ (x : Layout). headerSearched (f .slots) (f .payload) o x) (sym e1) ∙ e3 in
       rw (at, none) (refl, refl)
 
   pub object-walked : (eqb (h .length) 0 || ltb 0 (h .«code_len»)) ≡ true → (M : List ℕ) (u : Function) (p : Pool) (params : ℤ) → u ≡ functionOf (f .opcodes) l p params → p ≡ poolFound (f .objects) (f .slots) l o
-      → walkSource (sourceOf code (f .opcodes) (f .types) (f .slots) (f .payload) u) M ≡ walkSearched f o M
+      → walkSource (caughtBy (sourceOf code (f .opcodes) (f .types) (f .slots) (f .payload) u) (g .handlers)) M ≡ walkSearched f g o M
   unfolding walkSearched
   object-walked held M u p params e e2 =
       let at : headerFound f o ≡ header-answer.At h = ap (λ (x : Layout). headerSearched (f .slots) (f .payload) o x) (sym e1) ∙ e3 in
       let q = poolFound (f .objects) (f .slots) (layoutOf (f .layout)) o in
       let pool : p ≡ q = e2 ∙ ap (λ (x : Layout). poolFound (f .objects) (f .slots) x o) e1 in
-      let source : List ℕ → Layout → Pool → Source = λ c x y. sourceBy c (f .opcodes) (f .types) (f .slots) (f .payload) x y in
-      ap (λ (x : Function). walkSource (sourceOf code (f .opcodes) (f .types) (f .slots) (f .payload) x) M) e
+      let source : List ℕ → Layout → Pool → Source = λ c x y. sourceBy c (f .opcodes) (f .types) (f .slots) (f .payload) g x y in
+      ap (λ (x : Function). walkSource (caughtBy (sourceOf code (f .opcodes) (f .types) (f .slots) (f .payload) x) (g .handlers)) M) e
       ∙ ap (λ (c : List ℕ). walkSource (source c l p) M) e4
       ∙ ap (λ (x : Layout). walkSource (source (codeOf f (header-answer.At h)) x p) M) e1
       ∙ ap (λ (x : Pool). walkSource (source (codeOf f (header-answer.At h)) (layoutOf (f .layout)) x) M) pool
@@ -121,7 +121,7 @@ module _ (f : Files) (o : Object) (code : List ℕ) (l : Layout) (h : Header) (e
       ∙ sym (ap (λ (x : HeaderAnswer). guardedOn (firstRefusal (headerCheck x) (heldCheck x)) walked.Refused M (walkSource (source (codeOf f x) (layoutOf (f .layout)) q) M)) at)
 
 -- ---- lent code
-module _ (f : Files) (w : PoolObject) (code : List ℕ) where
+module _ (f : Files) (g : Given) (w : PoolObject) (code : List ℕ) where
   pub lent-short : checkLent f w code ≡ Ok → length code ≤ 65536
   lent-short ok =
       let c = or-right (checkPoolObject (f .objects) (f .slots) (f .payload) w) (checkCode code) (or-right (checkTable (f .opcodes) (f .types) (f .runtime) (f .intrinsic) (f .layout)) _ ok) in
@@ -129,14 +129,14 @@ module _ (f : Files) (w : PoolObject) (code : List ℕ) where
 
   -- what is found once of it is u
   pub lent-walked : (M : List ℕ) → checkLent f w code ≡ Ok → (u : Function) (l : Layout) (p : Pool) {params : ℤ} → u ≡ functionOf (f .opcodes) l p params → l ≡ layoutOf (f .layout)
-      → p ≡ lentFound (f .objects) (f .slots) l w → walkSource (sourceOf code (f .opcodes) (f .types) (f .slots) (f .payload) u) M ≡ walkLent f w code M
-  unfolding walkLent
+      → p ≡ lentFound (f .objects) (f .slots) l w → walkSource (caughtBy (sourceOf code (f .opcodes) (f .types) (f .slots) (f .payload) u) (g .handlers)) M ≡ walkLentWith f g w code M
+  unfolding walkLentWith
   lent-walked M ok u l p e e1 e2 =
       let at = layoutOf (f .layout) in
       let pool = e2 ∙ ap (λ (x : Layout). lentFound (f .objects) (f .slots) x w) e1 in
-      let source : Bool → (ℕ → Elem) → Source = λ x el. record { code = code; opcodes = opcodesOf (f .opcodes); types = f .types; rfs = at .frame .«reg_file_start»; pooled = x; elem = el } in
-      ap (λ (x : Function). walkSource (sourceOf code (f .opcodes) (f .types) (f .slots) (f .payload) x) M) e
-      ∙ ap (λ (x : Layout). walkSource (sourceBy code (f .opcodes) (f .types) (f .slots) (f .payload) x p) M) e1
+      let source : Bool → (ℕ → Elem) → Source = λ x el. record { code = code; opcodes = opcodesOf (f .opcodes); types = f .types; rfs = at .frame .«reg_file_start»; pooled = x; elem = el; handlers = g .handlers } in
+      ap (λ (x : Function). walkSource (caughtBy (sourceOf code (f .opcodes) (f .types) (f .slots) (f .payload) x) (g .handlers)) M) e
+      ∙ ap (λ (x : Layout). walkSource (sourceBy code (f .opcodes) (f .types) (f .slots) (f .payload) g x p) M) e1
       ∙ ap (λ (x : Pool). walkSource (source (found x) (poolSearched (f .slots) (f .payload) (at .«tagged_size») p)) M) (lent-pool f w code ok pool)
       ∙ ap (λ (x : ℕ → Elem). walkSource (source (found (lentPool f w)) x) M) (lent-elems f w code ok pool)
-      ∙ sym (ap (λ (c : Check). guardedOn c walked.Refused M (walkSource (lentSource f w code) M)) ok)
+      ∙ sym (ap (λ (c : Check). guardedOn c walked.Refused M (walkSource (lentWith f g w code) M)) ok)

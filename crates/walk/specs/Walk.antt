@@ -2,7 +2,7 @@
 -- the steps of an instruction in crate steps.
 use Prim.Native.Nat.{ℕ}
 use mathlib.Core.Path.{_≡_}
-use mathlib.Core.List.{List, _++_}
+use mathlib.Core.List.{List, [], _++_}
 use mathlib.Core.Bool.{_||_}
 use lib.Dec.{eqb, leb, ltb}
 use lib.ListN.{length, drop}
@@ -22,6 +22,7 @@ use Rattle.function.specs.Code.{headerAt, headerCheck, codeOf, listingCheck}
 use Rattle.graph.specs.Graph.{Finding, Answer, finding, markList}
 use Rattle.graph.specs.Graph.Finding.{closed, leaves}
 use Rattle.flow.specs.Opcodes.{opcodesOf}
+use Rattle.handlers.specs.Handlers.{checkHandlers}
 use Rattle.steps.specs.Steps.{Source, listing, walkGraph}
 use Rattle.walk.specs.declared.Walked.{Walked}
 use Rattle.walk.specs.declared.Walked.the-variants as walked
@@ -32,9 +33,11 @@ abbrev pub answer : Finding → Walked
 answer closed = walked.Closed
 answer (leaves n o) = walked.Leaves n o
 
--- 11 to 16; 18: "mark buffer shorter than the code"
+-- 11 to 16; 18: "mark buffer shorter than the code"; 02, Wish 5: 24 and 25, "both after 18"
 abbrev pub walkCheck : Source → ℕ → Check
-walkCheck s room = firstRefusal (listingCheck (s .opcodes) (s .pooled) (listing s)) (refuseUnless (leb (length (s .code)) room) 18)
+walkCheck s room =
+    firstRefusal (listingCheck (s .opcodes) (s .pooled) (listing s))
+    (firstRefusal (refuseUnless (leb (length (s .code)) room) 18) (checkHandlers (s .handlers) (length (s .code))))
 
 -- the answer, and the marks behind it: "further marks are unchanged"
 abbrev pub walkFound : Source → List ℕ → Walked × List ℕ
@@ -56,15 +59,29 @@ Promise s walked.Closed M = Answer (walkGraph s) (length (s .code)) M closed
 Promise s (walked.Leaves n o) M = Answer (walkGraph s) (length (s .code)) M (leaves n o)
 Promise s (walked.Refused r) M = Unit {0}
 
+-- ---- what is lent beside the files
+pub record Given : Type 0 where
+  pub handlers : List ℕ
+
+abbrev pub givenOf : List ℕ → Given
+givenOf handlers = record { handlers = handlers }
+
+-- nothing
+abbrev pub plain : Given
+plain = givenOf []
+
 -- ---- the walks of an object
--- code, with the files and a pool
-abbrev pub sourceWith : Files → List ℕ → Pool → Source
-sourceWith f code p =
+-- code, with the files, what is given and a pool
+abbrev pub sourceWith : Files → Given → List ℕ → Pool → Source
+sourceWith f g code p =
     let l = layoutOf (f .layout) in
-    record { code = code; opcodes = opcodesOf (f .opcodes); types = f .types; rfs = l .frame .«reg_file_start»; pooled = found p; elem = poolElem (f .slots) (f .payload) (l .«tagged_size») p }
+    record { code = code; opcodes = opcodesOf (f .opcodes); types = f .types; rfs = l .frame .«reg_file_start»; pooled = found p; elem = poolElem (f .slots) (f .payload) (l .«tagged_size») p; handlers = g .handlers }
+
+abbrev pub objectWith : Files → Given → ℕ → Source
+objectWith f g k = sourceWith f g (codeOf f (headerAt f k)) (poolOf f (objectOf (f .objects) k))
 
 abbrev pub objectSource : Files → ℕ → Source
-objectSource f k = sourceWith f (codeOf f (headerAt f k)) (poolOf f (objectOf (f .objects) k))
+objectSource f k = objectWith f plain k
 
 -- 02, Wish 4: 19 "exactly where it takes its code from an object whose length is positive and no run holds that code". The code is empty there, so that
 -- none of 11 to 16 is met before it.
@@ -72,17 +89,27 @@ abbrev pub heldCheck : HeaderAnswer → Check
 heldCheck (header-answer.At h) = refuseUnless (eqb (h .length) 0 || ltb 0 (h .«code_len»)) 19
 heldCheck (header-answer.Refused r) = Ok
 
--- the call: rows 1 to 9, then 11 to 16, 19 and 18
-unfoldable pub walkCall : Files → ℕ → List ℕ → Walked × List ℕ
-walkCall f k marks =
+-- the call: rows 1 to 9, then 11 to 16, 19, 18, 24 and 25
+unfoldable pub walkWith : Files → Given → ℕ → List ℕ → Walked × List ℕ
+walkWith f g k marks =
     guardedOn (firstRefusal (checkFiles f k) (firstRefusal (headerCheck (headerAt f k)) (heldCheck (headerAt f k)))) walked.Refused marks
-    (walkSource (objectSource f k) marks)
+    (walkSource (objectWith f g k) marks)
+
+-- with nothing given: no rows 24 and 25
+abbrev pub walkCall : Files → ℕ → List ℕ → Walked × List ℕ
+walkCall f k marks = walkWith f plain k marks
 
 -- ---- the walks of lent code
 -- with the pool of the object that is lent for it, if one is
-abbrev pub lentSource : Files → PoolObject → List ℕ → Source
-lentSource f o code = sourceWith f code (lentPool f o)
+abbrev pub lentWith : Files → Given → PoolObject → List ℕ → Source
+lentWith f g o code = sourceWith f g code (lentPool f o)
 
--- the call: rows 1 to 8 and 10, then 11 to 16 and 18
-unfoldable pub walkLent : Files → PoolObject → List ℕ → List ℕ → Walked × List ℕ
-walkLent f o code marks = guardedOn (checkLent f o code) walked.Refused marks (walkSource (lentSource f o code) marks)
+abbrev pub lentSource : Files → PoolObject → List ℕ → Source
+lentSource f o code = lentWith f plain o code
+
+-- the call: rows 1 to 8 and 10, then 11 to 16, 18, 24 and 25
+unfoldable pub walkLentWith : Files → Given → PoolObject → List ℕ → List ℕ → Walked × List ℕ
+walkLentWith f g o code marks = guardedOn (checkLent f o code) walked.Refused marks (walkSource (lentWith f g o code) marks)
+
+abbrev pub walkLent : Files → PoolObject → List ℕ → List ℕ → Walked × List ℕ
+walkLent f o code marks = walkLentWith f plain o code marks

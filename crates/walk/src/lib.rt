@@ -15,20 +15,23 @@ use store::Object;
 ghost use mathlib.Core.Path.{_≡_};
 ghost use Prim.Native.Nat.{_≤_};
 ghost use mathlib.Core.Bool.{cond, _||_};
-ghost use lib.Dec.{eqb, ltb};
+ghost use lib.Dec.{eqb, leb, ltb};
 ghost use lib.ListN.{length};
+ghost use mathlib.Core.List.{[]};
 ghost use Rattle.refusal.specs.declared.Check.the-variants.{Ok};
-ghost use Rattle.refusal.specs.Check.{refused, firstRefusal};
+ghost use Rattle.refusal.specs.Check.{refused, firstRefusal, refuseUnless};
 ghost use Rattle.decoder.specs.Decode.{decodeAt};
 ghost use Rattle.flow.specs.Opcodes.{opcodesOf};
 ghost use Rattle.tables.specs.Records.{prefixOp};
 ghost use Rattle.targets.specs.Targets.{found};
 ghost use Rattle.targets.specs.mirror.Search.{poolSearched, PoolBlocked};
+ghost use Rattle.handlers.specs.Handlers.{checkHandlers};
 ghost use Rattle.search.specs.mirror.Kept.{findingAs};
 ghost use Rattle.steps.specs.mirror.Keeping.{keptOf};
 ghost use Rattle.function.specs.Files.{Files, filesOf, lentFiles};
-ghost use Rattle.walk.specs.Walk.{answer, walkSource, WalkedAs, Promise, objectSource, walkCall, lentSource, walkLent};
-ghost use Rattle.walk.specs.mirror.Search.{sourceOf, Tabled, Clear, Started, WalkedBy, walkSearched};
+ghost use Rattle.walk.specs.Walk.{answer, walkSource, WalkedAs, Promise, Given, givenOf, objectSource, objectWith, walkCall, walkWith};
+ghost use Rattle.walk.specs.Walk.{lentSource, lentWith, walkLent, walkLentWith};
+ghost use Rattle.walk.specs.mirror.Search.{sourceOf, caughtBy, Tabled, Clear, Started, WalkedBy, WalkedLate, walkSearched};
 
 // The answer to a walk check: closed, or the steps of the shortest walk that leaves and the offset it leaves from, or a refusal.
 pub enum Walked {
@@ -54,6 +57,40 @@ pub fn walk(
         (now (layout .entry)) (now (objects .entry)) (now (slots .entry)) (now (payload .entry)) in
         ⌜ WalkedAs (walkCall f object (now (marks .entry))) r (now (marks .exit)) × Promise (objectSource f object) r (now (marks .exit)) ⌝ }
 {
+    walk_with(
+        marks,
+        opcodes,
+        types,
+        runtime,
+        intrinsic,
+        layout,
+        objects,
+        slots,
+        payload,
+        object,
+        b"",
+    )
+}
+
+// The same with what is lent beside: handler records, and rows 24 and 25 of them behind 18.
+pub fn walk_with(
+    marks: &mut [u8],
+    opcodes: &[u8],
+    types: &[u8],
+    runtime: &[u8],
+    intrinsic: &[u8],
+    layout: &[u8],
+    objects: &[u8],
+    slots: &[u8],
+    payload: &[u8],
+    object: usize,
+    handlers: &[u8],
+) -> Walked
+    ensures { λ r. let f : Files = filesOf (now (opcodes .entry)) (now (types .entry)) (now (runtime .entry)) (now (intrinsic .entry))
+        (now (layout .entry)) (now (objects .entry)) (now (slots .entry)) (now (payload .entry)) in
+        let g : Given = givenOf (now (handlers .entry)) in
+        ⌜ WalkedAs (walkWith f g object (now (marks .entry))) r (now (marks .exit)) × Promise (objectWith f g object) r (now (marks .exit)) ⌝ }
+{
     let check = function::check_files(
         opcodes,
         types,
@@ -78,6 +115,7 @@ pub fn walk(
             slots,
             payload,
             store::object_of(objects, object),
+            handlers,
         ),
     }
 }
@@ -99,6 +137,39 @@ pub fn walk_code(
         ⌜ WalkedAs (walkLent f object (now (code .entry)) (now (marks .entry))) r (now (marks .exit))
         × Promise (lentSource f object (now (code .entry))) r (now (marks .exit)) ⌝ }
 {
+    walk_code_with(
+        marks,
+        code,
+        opcodes,
+        types,
+        layout,
+        objects,
+        slots,
+        payload,
+        object,
+        b"",
+    )
+}
+
+// The same with handler records: then rows 24 and 25.
+pub fn walk_code_with(
+    marks: &mut [u8],
+    code: &[u8],
+    opcodes: &[u8],
+    types: &[u8],
+    layout: &[u8],
+    objects: &[u8],
+    slots: &[u8],
+    payload: &[u8],
+    object: PoolObject,
+    handlers: &[u8],
+) -> Walked
+    ensures { λ r. let f : Files = lentFiles (now (opcodes .entry)) (now (types .entry)) (now (layout .entry))
+        (now (objects .entry)) (now (slots .entry)) (now (payload .entry)) in
+        let g : Given = givenOf (now (handlers .entry)) in
+        ⌜ WalkedAs (walkLentWith f g object (now (code .entry)) (now (marks .entry))) r (now (marks .exit))
+        × Promise (lentWith f g object (now (code .entry))) r (now (marks .exit)) ⌝ }
+{
     let check = function::check_lent(
         code,
         opcodes,
@@ -115,7 +186,7 @@ pub fn walk_code(
             let shape = tables::layout_of(layout);
             let pool = function::lent_pool(objects, slots, shape, object);
             let f = function::function_of(opcodes, shape, pool, 0);
-            walk_source(marks, code, opcodes, types, slots, payload, f)
+            walk_source(marks, code, opcodes, types, slots, payload, handlers, f)
         }
     }
 }
@@ -132,10 +203,11 @@ fn walk_object(
     slots: &[u8],
     payload: &[u8],
     object: Object,
+    handlers: &[u8],
 ) -> Walked
     ensures { λ r. let s : Files = filesOf (now (opcodes .entry)) (now (types .entry)) (now (runtime .entry)) (now (intrinsic .entry))
         (now (layout .entry)) (now (objects .entry)) (now (slots .entry)) (now (payload .entry)) in
-        ⌜ WalkedBy (walkSearched s object (now (marks .entry))) r (now (marks .exit)) ⌝ }
+        ⌜ WalkedBy (walkSearched s (givenOf (now (handlers .entry))) object (now (marks .entry))) r (now (marks .exit)) ⌝ }
 {
     let shape = tables::layout_of(layout);
     match header::header_at_unchecked(slots, payload, object, shape) {
@@ -150,7 +222,7 @@ fn walk_object(
             let pool = function::pool_of(objects, slots, shape, object);
             let f = function::function_of(opcodes, shape, pool, h.parameter_count);
             let code = serializer::lent(payload, h.code_at, h.code_len);
-            walk_source(marks, code, opcodes, types, slots, payload, f)
+            walk_source(marks, code, opcodes, types, slots, payload, handlers, f)
         }
     }
 }
@@ -165,7 +237,7 @@ fn is_held(h: Header) -> bool
     0 < h.code_len
 }
 
-// The walks of a code of at most 65,536 bytes, once its files are good.
+// The walks of a code of at most 65,536 bytes, once its files are good. A table of what the handlers catch is made where there are good records.
 fn walk_source(
     marks: &mut [u8],
     code: &[u8],
@@ -173,15 +245,172 @@ fn walk_source(
     types: &[u8],
     slots: &[u8],
     payload: &[u8],
+    handlers: &[u8],
     f: Function,
 ) -> Walked
     requires { ⌜ (length (now code) ≤ 65536) × (f .wide ≡ prefixOp (now opcodes) 1) × (f .extra ≡ prefixOp (now opcodes) 2) ⌝ }
-    ensures { λ r. ⌜ WalkedBy (walkSource
+    ensures { λ r. ⌜ WalkedBy (walkSource (caughtBy
         (sourceOf (now (code .entry)) (now (opcodes .entry)) (now (types .entry)) (now (slots .entry)) (now (payload .entry)) f)
-        (now (marks .entry))) r (now (marks .exit)) ⌝ }
+        (now (handlers .entry))) (now (marks .entry))) r (now (marks .exit)) ⌝ }
 {
+    let late = handlers::check_handlers(handlers, code.len());
+    if handlers.len() == 0 {
+        return walk_bare(marks, code, opcodes, types, slots, payload, late, f);
+    }
+    match late {
+        Check::Refused(_) => walk_bare(marks, code, opcodes, types, slots, payload, late, f),
+        Check::Ok => walk_caught(marks, code, opcodes, types, slots, payload, handlers, f),
+    }
+}
+
+// Without such a table: there are no records, or they are refused.
+fn walk_bare(
+    marks: &mut [u8],
+    code: &[u8],
+    opcodes: &[u8],
+    types: &[u8],
+    slots: &[u8],
+    payload: &[u8],
+    late: Check,
+    f: Function,
+) -> Walked
+    requires { ⌜ (length (now code) ≤ 65536) × (f .wide ≡ prefixOp (now opcodes) 1) × (f .extra ≡ prefixOp (now opcodes) 2) ⌝ }
+    ensures { λ r. ⌜ WalkedLate
+        (sourceOf (now (code .entry)) (now (opcodes .entry)) (now (types .entry)) (now (slots .entry)) (now (payload .entry)) f)
+        [] late (now (marks .entry)) r (now (marks .exit)) ⌝ }
+{
+    let none = [0u32; 1];
     let flows = flow::flow_numbers(opcodes);
-    walk_sized(marks, code, opcodes, types, slots, payload, &flows, f)
+    walk_sized(
+        marks,
+        code,
+        opcodes,
+        types,
+        slots,
+        payload,
+        &flows,
+        &none[..0],
+        late,
+        f,
+    )
+}
+
+// With one, in room by the code's length.
+fn walk_caught(
+    marks: &mut [u8],
+    code: &[u8],
+    opcodes: &[u8],
+    types: &[u8],
+    slots: &[u8],
+    payload: &[u8],
+    handlers: &[u8],
+    f: Function,
+) -> Walked
+    requires { ⌜ (length (now code) ≤ 65536) × (f .wide ≡ prefixOp (now opcodes) 1) × (f .extra ≡ prefixOp (now opcodes) 2)
+        × (Ok ≡ checkHandlers (now handlers) (length (now code))) ⌝ }
+    ensures { λ r. ⌜ WalkedBy (walkSource (caughtBy
+        (sourceOf (now (code .entry)) (now (opcodes .entry)) (now (types .entry)) (now (slots .entry)) (now (payload .entry)) f)
+        (now (handlers .entry))) (now (marks .entry))) r (now (marks .exit)) ⌝ }
+{
+    if code.len() <= 1024 {
+        return caught_short(marks, code, opcodes, types, slots, payload, handlers, f);
+    }
+    caught_long(marks, code, opcodes, types, slots, payload, handlers, f)
+}
+
+fn caught_short(
+    marks: &mut [u8],
+    code: &[u8],
+    opcodes: &[u8],
+    types: &[u8],
+    slots: &[u8],
+    payload: &[u8],
+    handlers: &[u8],
+    f: Function,
+) -> Walked
+    requires { ⌜ (length (now code) ≤ 1024) × (f .wide ≡ prefixOp (now opcodes) 1) × (f .extra ≡ prefixOp (now opcodes) 2)
+        × (Ok ≡ checkHandlers (now handlers) (length (now code))) ⌝ }
+    ensures { λ r. ⌜ WalkedBy (walkSource (caughtBy
+        (sourceOf (now (code .entry)) (now (opcodes .entry)) (now (types .entry)) (now (slots .entry)) (now (payload .entry)) f)
+        (now (handlers .entry))) (now (marks .entry))) r (now (marks .exit)) ⌝ }
+{
+    let mut room = [0u32; 1024];
+    walk_catching(
+        marks,
+        code,
+        opcodes,
+        types,
+        slots,
+        payload,
+        handlers,
+        f,
+        &mut room,
+    )
+}
+
+fn caught_long(
+    marks: &mut [u8],
+    code: &[u8],
+    opcodes: &[u8],
+    types: &[u8],
+    slots: &[u8],
+    payload: &[u8],
+    handlers: &[u8],
+    f: Function,
+) -> Walked
+    requires { ⌜ (length (now code) ≤ 65536) × (f .wide ≡ prefixOp (now opcodes) 1) × (f .extra ≡ prefixOp (now opcodes) 2)
+        × (Ok ≡ checkHandlers (now handlers) (length (now code))) ⌝ }
+    ensures { λ r. ⌜ WalkedBy (walkSource (caughtBy
+        (sourceOf (now (code .entry)) (now (opcodes .entry)) (now (types .entry)) (now (slots .entry)) (now (payload .entry)) f)
+        (now (handlers .entry))) (now (marks .entry))) r (now (marks .exit)) ⌝ }
+{
+    let mut room = [0u32; 65536];
+    walk_catching(
+        marks,
+        code,
+        opcodes,
+        types,
+        slots,
+        payload,
+        handlers,
+        f,
+        &mut room,
+    )
+}
+
+fn walk_catching(
+    marks: &mut [u8],
+    code: &[u8],
+    opcodes: &[u8],
+    types: &[u8],
+    slots: &[u8],
+    payload: &[u8],
+    handlers: &[u8],
+    f: Function,
+    room: &mut [u32],
+) -> Walked
+    requires { ⌜ (length (now code) ≤ 65536) × (f .wide ≡ prefixOp (now opcodes) 1) × (f .extra ≡ prefixOp (now opcodes) 2)
+        × (Ok ≡ checkHandlers (now handlers) (length (now code))) × (length (now code) ≤ length (now room)) × Clear (now room) ⌝ }
+    ensures { λ r. ⌜ WalkedBy (walkSource (caughtBy
+        (sourceOf (now (code .entry)) (now (opcodes .entry)) (now (types .entry)) (now (slots .entry)) (now (payload .entry)) f)
+        (now (handlers .entry))) (now (marks .entry))) r (now (marks .exit)) ⌝ }
+{
+    let n = code.len();
+    let catches = &mut room[..n];
+    handlers::catch_table(code, opcodes, handlers, f.wide, f.extra, catches);
+    let flows = flow::flow_numbers(opcodes);
+    walk_sized(
+        marks,
+        code,
+        opcodes,
+        types,
+        slots,
+        payload,
+        &flows,
+        catches,
+        Check::Ok,
+        f,
+    )
 }
 
 // Room by the code's length: most code is short, and the room is cleared in each call. A head and a word for each byte, and two bytes an offset queued.
@@ -193,20 +422,55 @@ fn walk_sized(
     slots: &[u8],
     payload: &[u8],
     flows: &[u8],
+    catches: &[u32],
+    late: Check,
     f: Function,
 ) -> Walked
     requires { ⌜ (length (now code) ≤ 65536) × Tabled (now opcodes) (now flows) f ⌝ }
-    ensures { λ r. ⌜ WalkedBy (walkSource
+    ensures { λ r. ⌜ WalkedLate
         (sourceOf (now (code .entry)) (now (opcodes .entry)) (now (types .entry)) (now (slots .entry)) (now (payload .entry)) f)
-        (now (marks .entry))) r (now (marks .exit)) ⌝ }
+        (now (catches .entry)) late (now (marks .entry)) r (now (marks .exit)) ⌝ }
 {
     if code.len() <= 1024 {
-        return walk_short(marks, code, opcodes, types, slots, payload, flows, f);
+        return walk_short(
+            marks,
+            code,
+            opcodes,
+            types,
+            slots,
+            payload,
+            flows,
+            catches,
+            late,
+            f,
+        );
     }
     if code.len() <= 8192 {
-        return walk_middle(marks, code, opcodes, types, slots, payload, flows, f);
+        return walk_middle(
+            marks,
+            code,
+            opcodes,
+            types,
+            slots,
+            payload,
+            flows,
+            catches,
+            late,
+            f,
+        );
     }
-    walk_long(marks, code, opcodes, types, slots, payload, flows, f)
+    walk_long(
+        marks,
+        code,
+        opcodes,
+        types,
+        slots,
+        payload,
+        flows,
+        catches,
+        late,
+        f,
+    )
 }
 
 fn walk_short(
@@ -217,12 +481,14 @@ fn walk_short(
     slots: &[u8],
     payload: &[u8],
     flows: &[u8],
+    catches: &[u32],
+    late: Check,
     f: Function,
 ) -> Walked
     requires { ⌜ (length (now code) ≤ 1024) × Tabled (now opcodes) (now flows) f ⌝ }
-    ensures { λ r. ⌜ WalkedBy (walkSource
+    ensures { λ r. ⌜ WalkedLate
         (sourceOf (now (code .entry)) (now (opcodes .entry)) (now (types .entry)) (now (slots .entry)) (now (payload .entry)) f)
-        (now (marks .entry))) r (now (marks .exit)) ⌝ }
+        (now (catches .entry)) late (now (marks .entry)) r (now (marks .exit)) ⌝ }
 {
     let mut heads = [0u32; 1024];
     let mut words = [0u32; 1024];
@@ -235,6 +501,8 @@ fn walk_short(
         slots,
         payload,
         flows,
+        catches,
+        late,
         f,
         &mut heads,
         &mut words,
@@ -250,12 +518,14 @@ fn walk_middle(
     slots: &[u8],
     payload: &[u8],
     flows: &[u8],
+    catches: &[u32],
+    late: Check,
     f: Function,
 ) -> Walked
     requires { ⌜ (length (now code) ≤ 8192) × Tabled (now opcodes) (now flows) f ⌝ }
-    ensures { λ r. ⌜ WalkedBy (walkSource
+    ensures { λ r. ⌜ WalkedLate
         (sourceOf (now (code .entry)) (now (opcodes .entry)) (now (types .entry)) (now (slots .entry)) (now (payload .entry)) f)
-        (now (marks .entry))) r (now (marks .exit)) ⌝ }
+        (now (catches .entry)) late (now (marks .entry)) r (now (marks .exit)) ⌝ }
 {
     let mut heads = [0u32; 8192];
     let mut words = [0u32; 8192];
@@ -268,6 +538,8 @@ fn walk_middle(
         slots,
         payload,
         flows,
+        catches,
+        late,
         f,
         &mut heads,
         &mut words,
@@ -283,12 +555,14 @@ fn walk_long(
     slots: &[u8],
     payload: &[u8],
     flows: &[u8],
+    catches: &[u32],
+    late: Check,
     f: Function,
 ) -> Walked
     requires { ⌜ (length (now code) ≤ 65536) × Tabled (now opcodes) (now flows) f ⌝ }
-    ensures { λ r. ⌜ WalkedBy (walkSource
+    ensures { λ r. ⌜ WalkedLate
         (sourceOf (now (code .entry)) (now (opcodes .entry)) (now (types .entry)) (now (slots .entry)) (now (payload .entry)) f)
-        (now (marks .entry))) r (now (marks .exit)) ⌝ }
+        (now (catches .entry)) late (now (marks .entry)) r (now (marks .exit)) ⌝ }
 {
     let mut heads = [0u32; 65536];
     let mut words = [0u32; 65536];
@@ -301,6 +575,8 @@ fn walk_long(
         slots,
         payload,
         flows,
+        catches,
+        late,
         f,
         &mut heads,
         &mut words,
@@ -308,7 +584,8 @@ fn walk_long(
     )
 }
 
-// The walks of a code, in room for it where no head stands yet: 11 to 16, 18, and the search. Of empty code the search finds nothing that leaves.
+// The walks of a code, in room for it where no head stands yet: 11 to 16, 18, then what is late, and the search. Of empty code the search finds
+// nothing that leaves.
 fn walk_in(
     marks: &mut [u8],
     code: &[u8],
@@ -317,6 +594,8 @@ fn walk_in(
     slots: &[u8],
     payload: &[u8],
     flows: &[u8],
+    catches: &[u32],
+    late: Check,
     f: Function,
     heads: &mut [u32],
     words: &mut [u32],
@@ -324,29 +603,42 @@ fn walk_in(
 ) -> Walked
     requires { ⌜ (length (now code) ≤ 65536) × (length (now code) ≤ length (now heads)) × (length (now code) ≤ length (now words))
         × (length (now code) ≤ length (now queue)) × Clear (now heads) × Tabled (now opcodes) (now flows) f ⌝ }
-    ensures { λ r. ⌜ WalkedBy (walkSource
+    ensures { λ r. ⌜ WalkedLate
         (sourceOf (now (code .entry)) (now (opcodes .entry)) (now (types .entry)) (now (slots .entry)) (now (payload .entry)) f)
-        (now (marks .entry))) r (now (marks .exit)) ⌝ }
+        (now (catches .entry)) late (now (marks .entry)) r (now (marks .exit)) ⌝ }
 {
     let n = code.len();
     let pool = f.pool;
     let h = &mut heads[..n];
     let w = &mut words[..n];
-    let check = keep_code(code, opcodes, types, slots, payload, flows, f, h, w);
+    let kept = keep_code(code, opcodes, types, slots, payload, flows, f, h, w);
+    let room = marks.len();
+    let check = refusal::first_refusal(kept, room_check(n, room, late));
     match check {
         Check::Refused(refusal) => Walked::Refused(refusal),
         Check::Ok => {
-            let room = marks.len();
-            if room < n {
-                return Walked::Refused(Refusal {
-                    number: refusal::SHORT_MARKS,
-                    place: 0,
-                });
-            }
-            let found = search::search(slots, payload, f.ts, pool, h, w, &mut marks[..n], queue);
+            let found = search::search(
+                slots,
+                payload,
+                f.ts,
+                pool,
+                h,
+                w,
+                catches,
+                &mut marks[..n],
+                queue,
+            );
             answer_of(found)
         }
     }
+}
+
+// 18, for a code of n bytes and so many marks, and what comes behind it.
+fn room_check(n: usize, room: usize, late: Check) -> Check
+    ensures { λ r. ⌜ r ≡ firstRefusal (refuseUnless (leb n room) 18) late ⌝ }
+{
+    let check = refusal::refuse_unless(n <= room, refusal::SHORT_MARKS);
+    refusal::first_refusal(check, late)
 }
 
 fn answer_of(found: Searched) -> Walked

@@ -10,6 +10,7 @@ use std::process::{Command, Output, Stdio};
 pub const TABLE: [&str; 5] =
     ["opcodes.bin", "types.bin", "runtime.bin", "intrinsic.bin", "layout.bin"];
 pub const STORE: [&str; 3] = ["objects.bin", "slots.bin", "payload.bin"];
+pub const HANDLERS: &str = "handlers.bin";
 /// The sample's function, and what the gate has jscd_list print of it.
 pub const SAMPLE: &[u8] = &[0x03, 0x05, 0x04, 0xfa, 0x0b];
 
@@ -51,10 +52,22 @@ pub fn store(code: &[u8]) -> [Vec<u8>; 3] {
     [objects, slots, payload]
 }
 
-/// A function of this code in a folder with any name.
+/// A function of this code in a folder with any name. It has no handlers.
 pub fn put(input: &Path, name: impl AsRef<OsStr>, code: &[u8]) -> PathBuf {
+    put_with(input, name, code, &[])
+}
+
+/// A function with handlers: start, end, handler offset.
+pub fn put_with(
+    input: &Path,
+    name: impl AsRef<OsStr>,
+    code: &[u8],
+    handlers: &[[u32; 3]],
+) -> PathBuf {
     let folder = input.join(name.as_ref());
     put_files(&folder, &STORE, &store(code));
+    let handlers: Vec<u8> = handlers.iter().flatten().flat_map(|n| n.to_le_bytes()).collect();
+    std::fs::write(folder.join(HANDLERS), handlers).unwrap();
     folder
 }
 

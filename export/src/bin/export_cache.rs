@@ -59,7 +59,7 @@ fn export(paths: &[PathBuf], out: &Path) -> Result<bool, String> {
     Ok(whole)
 }
 
-/// What the header says, and how many functions there are.
+/// What the header says, and how many functions and handlers there are. An entry of a handler table that holds no offset has no record.
 fn spoken(cache: &Cache) -> String {
     let Cache { header, v8, node, all } = cache;
     let module = if header.is_module() { ", a module" } else { "" };
@@ -69,8 +69,11 @@ fn spoken(cache: &Cache) -> String {
         count => format!(", {count} {what}"),
     };
     let left = counted(all.refused.len(), "left out") + &counted(all.without, "not compiled");
+    let (handlers, empty) = all.handlers();
+    let handlers =
+        counted(handlers, "handlers") + &counted(empty, "empty handler entries left out");
     let functions = all.functions.len();
-    format!("{functions} functions{left}; V8 {v8} ({node}), flags {flags:#010x}, source of {length} characters{module}")
+    format!("{functions} functions{left}{handlers}; V8 {v8} ({node}), flags {flags:#010x}, source of {length} characters{module}")
 }
 
 /// What tells the functions of a cache from those of the others: its file's name, with a number where another has the same.

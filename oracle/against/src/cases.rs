@@ -1,6 +1,7 @@
 //! Cases from a seed: functions over many tables, stores that are odd or damaged, tables that are damaged.
 
 use oracle::codes;
+use oracle::handlers::{self, Handler};
 use oracle::random::Random;
 use oracle::real::{self, Real};
 use oracle::records::*;
@@ -119,6 +120,36 @@ impl Stock {
         }
         files
     }
+}
+
+/// A file of handler records for code of this length, whose instructions start there: most bounds and handlers are such
+/// places; now and then a record is at fault or the file is cut.
+pub fn handlers(r: &mut Random, starts: &[u32], length: u32) -> Vec<u8> {
+    let place = |r: &mut Random| match r.below(8) {
+        0 => r.below(length as u64 + 3) as u32,
+        1 => length,
+        _ if starts.is_empty() => r.below(length as u64 + 1) as u32,
+        _ => *r.pick(starts),
+    };
+    let one = |r: &mut Random| {
+        let (a, b, to) = (place(r), place(r), place(r));
+        match r.below(40) {
+            0 => Handler::new(b, a, to),
+            1 => Handler::new(a, length + 1, u32::MAX),
+            _ => {
+                let start = a.min(b).min(length.saturating_sub(1));
+                Handler::new(start, a.max(b).min(length).max(start + 1), to)
+            }
+        }
+    };
+    let count = *r.pick(&[0, 1, 1, 1, 2, 2, 3, 9]);
+    let mut file = handlers::file(&(0..count).map(|_| one(r)).collect::<Vec<_>>());
+    match r.below(200) {
+        0 => file.push(0),
+        1 => drop(file.pop()),
+        _ => {}
+    }
+    file
 }
 
 /// Renames opcodes to jumps, switches and ends; half of these get the operands that they have in V8, or nearly.

@@ -1,7 +1,8 @@
 //! Both sides asked, what they said counted, and a difference made small.
 
-use crate::cases::Function;
-use crate::sides::{Ours, Rust, Said};
+use crate::cases::{self, Function};
+use crate::sides::{Handled, LentCode, Ours, Rust, Said};
+use oracle::handlers;
 use oracle::random::Random;
 use oracle::records::*;
 use std::collections::BTreeMap;
@@ -15,6 +16,11 @@ const SHOWN: usize = 20;
 const OF_LISTING: [usize; 16] = [1, 2, 3, 4, 5, 6, 7, 8, 9, 11, 12, 13, 14, 15, 16, 17];
 const OF_DECODING: [usize; 12] = [1, 2, 3, 4, 5, 10, 11, 12, 13, 14, 15, 20];
 const OF_WALKS: [usize; 17] = [1, 2, 3, 4, 5, 6, 7, 8, 9, 11, 12, 13, 14, 15, 16, 18, 19];
+/// The same with handler records; 10 is that of lent code.
+const OF_HANDLED: [usize; 20] =
+    [1, 2, 3, 4, 5, 6, 7, 8, 9, 10, 11, 12, 13, 14, 15, 16, 18, 19, 24, 25];
+/// One more than the highest number.
+const NUMBERS: usize = 26;
 /// As many marks as the code of nearly every case has bytes.
 const MARKS: usize = 1 << 12;
 /// As long as the listing of every short code.
@@ -25,14 +31,19 @@ pub struct Report {
     /// Cases by kind, and calls by function.
     pub cases: BTreeMap<&'static str, u64>,
     /// Answers (0) and refusals by number, where both sides agree.
-    pub listed: [u64; 21],
-    pub decoded: [u64; 21],
-    pub walked: [u64; 21],
+    pub listed: [u64; NUMBERS],
+    pub decoded: [u64; NUMBERS],
+    pub walked: [u64; NUMBERS],
+    pub handled: [u64; NUMBERS],
     /// Of the walks that are answered: closed, leaving.
     pub closed: u64,
     pub leaving: u64,
     /// Of the closed ones, those of empty code.
     pub empty: u64,
+    /// Of the walks with handler records that are answered: closed, leaving, and those that are otherwise without records.
+    pub handled_closed: u64,
+    pub handled_leaving: u64,
+    pub changed: u64,
     /// Listings, alike, that show entries of a switch under a prefix.
     pub prefixed: u64,
     pub not_comparable: u64,
@@ -45,11 +56,15 @@ impl Report {
         for (kind, count) in other.cases {
             *self.cases.entry(kind).or_default() += count;
         }
-        for k in 0..21 {
+        for k in 0..NUMBERS {
             self.listed[k] += other.listed[k];
             self.decoded[k] += other.decoded[k];
             self.walked[k] += other.walked[k];
+            self.handled[k] += other.handled[k];
         }
+        self.handled_closed += other.handled_closed;
+        self.handled_leaving += other.handled_leaving;
+        self.changed += other.changed;
         self.closed += other.closed;
         self.leaving += other.leaving;
         self.empty += other.empty;
@@ -68,6 +83,10 @@ impl Report {
         let mut out = none("listing", &OF_LISTING, &self.listed);
         out.extend(none("instruction", &OF_DECODING, &self.decoded));
         out.extend(none("walk check", &OF_WALKS, &self.walked));
+        out.extend(none("walk check with handlers", &OF_HANDLED, &self.handled));
+        if whole && self.changed == 0 {
+            out.push("no handlers changed the answer of a walk check".into());
+        }
         if whole && self.prefixed == 0 {
             out.push("no listing shows entries of a switch under a prefix".into());
         }
@@ -90,16 +109,24 @@ impl fmt::Display for Report {
             ("listings", &self.listed),
             ("instructions", &self.decoded),
             ("walk checks", &self.walked),
+            ("walk checks with handlers", &self.handled),
         ];
         for (what, counts) in counted {
-            let refused: Vec<String> =
-                (1..21).filter(|n| counts[*n] > 0).map(|n| format!("{n}: {}", counts[n])).collect();
+            let refused: Vec<String> = (1..NUMBERS)
+                .filter(|n| counts[*n] > 0)
+                .map(|n| format!("{n}: {}", counts[n]))
+                .collect();
             writeln!(f, "{what}: {} answered; refused {}", counts[0], refused.join(", "))?;
         }
         writeln!(
             f,
             "walk checks that are answered: {} closed, {} of them of empty code, {} leave",
             self.closed, self.empty, self.leaving
+        )?;
+        writeln!(
+            f,
+            "with handlers: {} closed, {} leave; {} otherwise than without them",
+            self.handled_closed, self.handled_leaving, self.changed
         )?;
         writeln!(f, "listings with entries of a switch under a prefix: {}", self.prefixed)?;
         writeln!(f, "not comparable (two types of one name): {}", self.not_comparable)?;
@@ -151,6 +178,21 @@ impl Compare {
         if !self.walk(&files, room as usize) {
             self.smaller_walk(function, room as usize);
         }
+        self.handlers(&files, &function.code, room as usize, turn);
+    }
+
+    /// The walks with handler records, by turns of object 0 and of the same code lent, with its pool and without.
+    fn handlers(&mut self, files: &Files, code: &[u8], room: usize, turn: u64) {
+        // Of their own, so that the other cases of a seed are what they were.
+        let mut r = Random::new(turn);
+        let starts = self.rust.starts(files, code);
+        let handlers = &cases::handlers(&mut r, &starts, code.len() as u32)[..];
+        let lent = match turn % 4 {
+            0 => Some(LentCode { code, pool: true }),
+            1 => Some(LentCode { code, pool: false }),
+            _ => None,
+        };
+        self.handle(Handled { files, lent, room, handlers });
     }
 
     /// The eight files, as they are, listed, and their walks checked.
@@ -165,6 +207,8 @@ impl Compare {
             let small = smaller_files(files, |files| self.walks_differ(files, MARKS));
             self.walk_difference(kind.to_string(), &small, MARKS);
         }
+        let turn = self.report.cases.get("walk checks").copied().unwrap_or(0);
+        self.handlers(files, &[0x02, 0x0b], MARKS, turn);
     }
 
     /// A short code of the sample: its first instruction, its listing and its walks.
@@ -177,6 +221,20 @@ impl Compare {
         if !self.walk(files, code.len()) {
             self.walk_difference(format!("short code {code:02x?}"), files, code.len());
         }
+        if code.len() <= 2 {
+            self.short_handlers(files, code);
+        }
+    }
+
+    /// Every record of a short code, with a handler up to behind its end.
+    fn short_handlers(&mut self, files: &Files, code: &[u8]) {
+        let length = code.len() as u32;
+        for (start, end) in [(0, 1), (0, 2), (1, 2), (1, 1)] {
+            for to in 0..=length + 1 {
+                let handlers = &handlers::Handler::new(start, end, to).bytes()[..];
+                self.handle(Handled { files, lent: None, room: code.len(), handlers });
+            }
+        }
     }
 
     /// Code that is as long as it may be, and longer.
@@ -188,6 +246,9 @@ impl Compare {
             self.decode(&table, &code, length + 1);
             code[length - 1] = 0x03;
             self.decode(&table, &code, length - 1);
+            let handlers = &[][..];
+            let lent = Some(LentCode { code: &code, pool: false });
+            self.handle(Handled { files: &table, lent, room: length, handlers });
             for last in [0x02, 0x03, 0x0c] {
                 code[length - 1] = last;
                 let files = oracle::sample::function(&code, 8, &[]);
@@ -252,6 +313,53 @@ impl Compare {
             }
         }
         same
+    }
+
+    /// Both asked for the walks with handler records: the answer and the marks; counted where they are alike.
+    fn handle(&mut self, asked: Handled) {
+        self.case("walk checks with handlers");
+        let Ok(rust) = self.rust.handled(asked) else {
+            self.report.not_comparable += 1;
+            return;
+        };
+        if self.ours.handled(asked, rust.marks()) != rust {
+            return self.handled_difference(asked);
+        }
+        self.report.handled[rust.number()] += 1;
+        match rust {
+            Said::Walked(None, _) => self.report.handled_closed += 1,
+            Said::Walked(Some(_), _) => self.report.handled_leaving += 1,
+            _ => return,
+        }
+        let without = self.rust.handled(Handled { handlers: &[], ..asked });
+        self.report.changed += without.is_ok_and(|without| without != rust) as u64;
+    }
+
+    /// The difference with as few records as still differ.
+    fn handled_difference(&mut self, asked: Handled) {
+        if !self.to_show() {
+            return;
+        }
+        let records: Vec<&[u8]> = asked.handlers.chunks(handlers::SIZE).collect();
+        let differs = |handlers: &[u8], compare: &mut Compare| {
+            let asked = Handled { handlers, ..asked };
+            let rust = compare.rust.handled(asked);
+            rust.is_ok_and(|rust| compare.ours.handled(asked, rust.marks()) != rust)
+        };
+        let small = shrunk(&records, |records| differs(&records.concat(), self)).concat();
+        let asked = Handled { handlers: &small, ..asked };
+        let rust = self.rust.handled(asked);
+        let marks = rust.as_ref().map_or(0, |rust| rust.marks());
+        let ours = self.ours.handled(asked, marks).shown();
+        let rust = rust.map_or("not comparable".into(), |rust| rust.shown());
+        let lent = asked.lent.map(|lent| format!("code {:02x?}, pool {}", lent.code, lent.pool));
+        let of = lent.unwrap_or("object 0".into());
+        let whole = format!(
+            "walk with handlers {}, {of}, {} marks\n  ours {ours}\n  rust {rust}",
+            hex(&small),
+            asked.room
+        );
+        self.told(whole + &store(asked.files) + &tables(asked.files));
     }
 
     fn walks_differ(&mut self, files: &Files, room: usize) -> bool {
@@ -461,6 +569,17 @@ mod tests {
         );
         assert_eq!(compare.ours.walk(&files, 5, 9), compare.rust.walk(&files, 9).ok().unwrap());
         assert_ne!(compare.ours.walk(&files, 5, 9), compare.rust.walk(&other, 9).ok().unwrap());
+        // A handler at 0, and one inside the first instruction.
+        let [good, bad] = [0, 1].map(|to| handlers::Handler::new(0, 1, to).bytes());
+        let lent = Some(LentCode { code: &[0x03, 0x05, 0x0b], pool: true });
+        for lent in [None, lent] {
+            let asked = Handled { files: &files, lent, room: 9, handlers: &good };
+            let other = Handled { handlers: &bad, ..asked };
+            let length = if lent.is_none() { 5 } else { 3 };
+            let ours = compare.ours.handled(asked, length);
+            assert_eq!(ours, compare.rust.handled(asked).ok().unwrap());
+            assert_ne!(ours, compare.rust.handled(other).ok().unwrap());
+        }
     }
 
     #[test]
@@ -468,7 +587,7 @@ mod tests {
         let report = Report::default();
         assert_eq!(
             report.missing(true).len(),
-            OF_LISTING.len() + OF_DECODING.len() + OF_WALKS.len() + 2
+            OF_LISTING.len() + OF_DECODING.len() + OF_WALKS.len() + OF_HANDLED.len() + 3
         );
         assert!(report.to_string().ends_with("0 differences\n"));
     }

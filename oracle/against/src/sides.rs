@@ -75,6 +75,23 @@ impl From<ours::Refusal> for Said {
     }
 }
 
+/// A walk check with handler records: of object 0, or of lent code.
+#[derive(Clone, Copy)]
+pub struct Handled<'a> {
+    pub files: &'a Files,
+    pub lent: Option<LentCode<'a>>,
+    /// How many marks there are.
+    pub room: usize,
+    pub handlers: &'a [u8],
+}
+
+#[derive(Clone, Copy)]
+pub struct LentCode<'a> {
+    pub code: &'a [u8],
+    /// Whether object 0 lends its pool.
+    pub pool: bool,
+}
+
 /// A buffer is filled with this before each call.
 const FILLED: u8 = 0xa5;
 
@@ -122,17 +139,36 @@ impl Ours {
         let lent =
             ours::Files { opcodes, types, runtime, intrinsic, layout, objects, slots, payload };
         let mut marks = vec![FILLED; room];
-        let answer = ours::walk(&lent, 0, &mut marks);
-        let kept = if answer.is_ok() { length.min(room) } else { 0 };
-        if marks[kept..].iter().any(|mark| *mark != FILLED) {
-            return Said::Stray(format!("{answer:?}, and wrote elsewhere"));
-        }
-        marks.truncate(kept);
-        match answer {
-            Ok(ours::Walked::Closed) => Said::Walked(None, marks),
-            Ok(ours::Walked::Leaves { steps, from }) => Said::Walked(Some((steps, from)), marks),
-            Err(refusal) => refusal.into(),
-        }
+        marked(ours::walk(&lent, 0, &mut marks), marks, length)
+    }
+
+    /// The same with handler records.
+    pub fn handled(&mut self, asked: Handled, length: usize) -> Said {
+        let [opcodes, types, runtime, intrinsic, layout, objects, slots, payload] =
+            &asked.files.body;
+        let given = ours::Given { handlers: asked.handlers };
+        let mut marks = vec![FILLED; asked.room];
+        let answer = match asked.lent {
+            Some(LentCode { code, pool }) => {
+                let object = pool.then_some(0);
+                let lent = ours::Lent { opcodes, types, layout, objects, slots, payload, object };
+                ours::walk_code_with(&lent, code, given, &mut marks)
+            }
+            None => {
+                let lent = ours::Files {
+                    opcodes,
+                    types,
+                    runtime,
+                    intrinsic,
+                    layout,
+                    objects,
+                    slots,
+                    payload,
+                };
+                ours::walk_with(&lent, 0, given, &mut marks)
+            }
+        };
+        marked(answer, marks, length)
     }
 
     pub fn decode(&self, files: &Files, code: &[u8], start: usize) -> Said {
@@ -148,6 +184,20 @@ impl Ours {
                 Said::Numbers(out)
             }
         }
+    }
+}
+
+/// What a walk check said, and its marks; those behind the code's are as they were.
+fn marked(answer: Result<ours::Walked, ours::Refusal>, mut marks: Vec<u8>, length: usize) -> Said {
+    let kept = if answer.is_ok() { length.min(marks.len()) } else { 0 };
+    if marks[kept..].iter().any(|mark| *mark != FILLED) {
+        return Said::Stray(format!("{answer:?}, and wrote elsewhere"));
+    }
+    marks.truncate(kept);
+    match answer {
+        Ok(ours::Walked::Closed) => Said::Walked(None, marks),
+        Ok(ours::Walked::Leaves { steps, from }) => Said::Walked(Some((steps, from)), marks),
+        Err(refusal) => refusal.into(),
     }
 }
 
@@ -228,15 +278,40 @@ impl Rust {
     /// The walks of object 0, with so many marks: the check of `oracle::walks`, over the Rust's decoding, targets and entries, and
     /// `oracle::switches`.
     pub fn walk(&mut self, files: &Files, room: usize) -> Result<Said, NotComparable> {
-        let held = &mut self.listing;
-        held.set(files, &[OPCODES, TYPES, RUNTIME, INTRINSIC, LAYOUT])?;
-        if let Err(refusal) = held.checked.and_then(|_| checks::store(files, usize::MAX)) {
+        self.handled(Handled { files, lent: None, room, handlers: &[] })
+    }
+
+    /// The same with handler records, of object 0 or of lent code, which is lent no names.
+    pub fn handled(&mut self, asked: Handled) -> Result<Said, NotComparable> {
+        let files = asked.files;
+        let (held, table): (&mut Held, &[usize]) = match asked.lent {
+            None => (&mut self.listing, &[OPCODES, TYPES, RUNTIME, INTRINSIC, LAYOUT]),
+            Some(_) => (&mut self.decoding, &[OPCODES, TYPES, LAYOUT]),
+        };
+        held.set(files, table)?;
+        let store = asked.lent.is_none_or(|lent| lent.pool);
+        let checked = match store {
+            true => held.checked.and_then(|_| checks::store(files, usize::MAX)),
+            false => held.checked,
+        };
+        if let Err(refusal) = checked {
             return Ok(refusal.into());
         }
-        let port = held.port.take().expect("the table is good").with_store(files);
-        let said = walked(&port, files, room);
+        let with = if store { files } else { &NO_STORE };
+        let port = held.port.take().expect("the table is good").with_store(with);
+        let said = walked(&port, asked);
         held.port = Some(port.with_store(&NO_STORE));
         Ok(said.unwrap_or_else(Said::from))
+    }
+
+    /// Where the instructions of this code start, where it is decoded.
+    pub fn starts(&mut self, files: &Files, code: &[u8]) -> Vec<u32> {
+        let held = &mut self.decoding;
+        if held.set(files, &[OPCODES, TYPES, LAYOUT]).is_err() || held.checked.is_err() {
+            return Vec::new();
+        }
+        let listed = decode::all(held.port.as_ref().expect("the table is good"), code);
+        listed.unwrap_or_default().iter().map(|ins| ins.offset as u32).collect()
     }
 
     /// The instruction at a place. The call is lent no names.
@@ -291,10 +366,22 @@ fn listing(port: &Port, files: &Files, room: usize) -> Result<Said, Refusal> {
     Ok(Said::Text(listing.into_bytes()))
 }
 
-/// The walk check, after row 8.
-fn walked(port: &Port, files: &Files, room: usize) -> Result<Said, Refusal> {
-    let function = checks::function(files, 0)?;
-    let walked = walks::check_object(port, function, room as u64)?;
+/// The walk check, after the rows of table and store.
+fn walked(port: &Port, asked: Handled) -> Result<Said, Refusal> {
+    let (room, handlers) = (asked.room as u64, asked.handlers);
+    let walked = match asked.lent {
+        None => {
+            let function = checks::function(asked.files, 0)?;
+            walks::check_object(port, function, room, handlers)?
+        }
+        Some(LentCode { code, pool: false }) => {
+            walks::check(port, port.without_pool(), code, room, handlers)?
+        }
+        Some(LentCode { code, pool: true }) => {
+            let function = checks::object(asked.files, 0)?;
+            walks::check(port, function, code, room, handlers)?
+        }
+    };
     let left = match walked.outcome {
         Outcome::Closed => None,
         Outcome::Leaves { steps, from } => Some((steps, from)),

@@ -1,14 +1,16 @@
 //! The oracle's command line (see README.md).
 
-use oracle::ask::{ask, Call, DECODE_SMI_BYTES, FUNCTIONS, LISTING, NO_OBJECT, WALK};
+use oracle::ask::{ask, ask_with, Call, DECODE_SMI_BYTES, FUNCTIONS, LISTING, NO_OBJECT, WALK};
 use oracle::caches;
 use oracle::checks;
 use oracle::classes::{self, Classes};
 use oracle::port::{Port, STORE, TABLE};
 use oracle::records::Files;
 use oracle::vectors::{self, Writer};
+use oracle::walk_tries::{self, TriesRecording};
 use oracle::{cases, code_recording, instructions, recording, sample, v8};
 use oracle::{entry_recording, header_recording, jump_recording, list_recording, named};
+use oracle::{handler_classes, handler_recording};
 use oracle::{programs, slot_recording, v8_lists};
 use oracle::{walk_classes, walk_recording, walk_short, walk_v8, write_recording, wrong};
 use std::path::Path;
@@ -17,7 +19,7 @@ use std::process::ExitCode;
 const USAGE: &str = "usage:
   oracle sample DIR                   write document 01's sample as eight record files
   oracle list DIR                     the listing of object 0, or a refusal
-  oracle call DIR FUNCTION ARGS..     the answer of one function (lent code: DIR/code.bin, else object 0's)
+  oracle call DIR FUNCTION ARGS..     the answer of one function (lent code: DIR/code.bin, else object 0's; handlers: DIR/handlers.bin)
   oracle functions                    the functions, their numbers and arguments
   oracle cases                        document 01's rows: what it says and what the Rust says
   oracle record OUT                   write the vectors of these rows
@@ -40,6 +42,9 @@ const USAGE: &str = "usage:
   oracle record-walk SEED OUT..       write vectors of the walk (five files), and count their classes
   oracle record-walk-short OUT [few]  write vectors of the walk over all short codes, or over few of them
   oracle record-walk-v8 FOLDER OUT    write vectors of the walk over V8's functions (v8-listings)
+  oracle record-handlers SEED OUT     write vectors of the walk with handler records, and count their classes
+  oracle record-tries EXPORTED PRINT OUT   write vectors of the walk over such functions with V8's handler tables, and count them
+  oracle record-tries-v8 FOLDER OUT   the same for V8's functions (v8-listings)
   oracle record-programs CRATES       write data, args and stdout of jscd_list, jscd_walk, file_cases
   oracle walk DIR [MARKS]             the walk over object 0's code with a mark buffer of so many bytes (65536)";
 
@@ -78,6 +83,13 @@ fn main() -> ExitCode {
         ["record-v8", folder, out] => record_v8(Path::new(folder), out),
         ["replay", file] => replay(file),
         ["record-walk", seed, out @ ..] => record_walk(seed, out),
+        ["record-handlers", seed, out] => record_handlers(seed, out),
+        ["record-tries", folder, print, out] => {
+            record_tries(walk_tries::record(Path::new(folder), Path::new(print)), out)
+        }
+        ["record-tries-v8", folder, out] => {
+            record_tries(walk_tries::record_v8(Path::new(folder)), out)
+        }
         ["record-walk-v8", folder, out] => record_walk_v8(Path::new(folder), out),
         ["record-walk-short", out] => record_walk_short(out, false),
         ["record-walk-short", out, "few"] => record_walk_short(out, true),
@@ -113,7 +125,8 @@ fn call(folder: &Path, function: &str, args: &[&str]) -> Result<bool, String> {
         let words: Result<Vec<u64>, String> = args.iter().map(|a| word(a)).collect();
         Call::new(number, &words?)
     };
-    println!("{}", ask(&files, &lent_code(folder, &files)?, &call)?);
+    let handlers = std::fs::read(folder.join("handlers.bin")).unwrap_or_default();
+    println!("{}", ask_with(&files, &lent_code(folder, &files)?, &handlers, &call)?);
     Ok(true)
 }
 
@@ -304,6 +317,20 @@ fn record_walk(seed: &str, out: &[&str]) -> Result<bool, String> {
     }
     let recording = walk_recording::record(word(seed)?)?;
     parts(out, &recording.writers, &recording.classes, &walk_classes::wanted())
+}
+
+fn record_handlers(seed: &str, out: &str) -> Result<bool, String> {
+    let recording = handler_recording::record(word(seed)?)?;
+    classified(out, &recording.writer, &recording.classes, &handler_classes::wanted())
+}
+
+fn record_tries(recording: Result<TriesRecording, String>, out: &str) -> Result<bool, String> {
+    let recording = recording?;
+    let vectors = &recording.writer;
+    std::fs::write(out, &vectors.out).map_err(|e| format!("{out}: {e}"))?;
+    print!("{}", recording.report());
+    println!("{} calls, {} bytes", vectors.calls, vectors.out.len());
+    Ok(recording.others.is_empty())
 }
 
 /// The same as `classified` for vectors in several files.

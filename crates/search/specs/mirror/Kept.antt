@@ -2,8 +2,9 @@
 -- A graph that lies in lent numbers. Of the n bytes of a code each has a head: 0 where no instruction starts, else size + 256 * form + 4096 * count,
 -- where the form is a sum of 1 (it goes on to its end), 2 (it goes to a target), 4 (it goes to the entries of a table) and 8 (distances count from
 -- behind a prefix), and the count is the number of a table's entries. The word at the instruction's offset is the target's place, or the number of
--- the table's first element. "No target" is a place where nothing starts.
-use Prim.Native.Nat.{ℕ, zero, suc, _+_, _/_, _%_, _≤_, _<_, min}
+-- the table's first element. "No target" is a place where nothing starts. A third table has one more than the offset of the handler that an instruction
+-- may go to, 0 where there is none; it may be empty.
+use Prim.Native.Nat.{ℕ, zero, suc, _+_, _-_, _/_, _%_, _≤_, _<_, min}
 use mathlib.Core.Path.{_≡_}
 use mathlib.Core.Bool.{Bool, true, cond}
 use mathlib.Core.List.{List, [], _∷_, _++_}
@@ -74,6 +75,10 @@ onSteps o h = cond (goesOn h) (To (o + sizeOf h) ∷ []) []
 abbrev pub keptSteps : (ℕ → Elem) → List ℕ → ℕ → ℕ → List Step
 keptSteps el words o h = jumps el words o h ++ onSteps o h
 
+-- to its handler
+unfoldable pub catchSteps : List ℕ → ℕ → List Step
+catchSteps catches o = cond (eqb (getD catches o 0) 0) [] (To (getD catches o 0 - 1) ∷ [])
+
 -- the word that keeps a step: the place, or one where nothing starts
 abbrev pub wordOf : Step → ℕ
 wordOf (To t) = min t 4294967295
@@ -85,12 +90,12 @@ unfoldable pub places : ℕ → List ℕ → List ℕ
 places i [] = []
 places i (h ∷ hs) = cond (eqb h 0) (places (suc i) hs) (i ∷ places (suc i) hs)
 
-unfoldable pub keptGraph : (ℕ → Elem) → List ℕ → List ℕ → Graph
-keptGraph el heads words = record { starts = places 0 heads; steps = λ o. keptSteps el words o (getD heads o 0) }
+unfoldable pub keptGraph : (ℕ → Elem) → List ℕ → List ℕ → List ℕ → Graph
+keptGraph el heads words catches = record { starts = places 0 heads; steps = λ o. catchSteps catches o ++ keptSteps el words o (getD heads o 0) }
 
 -- with the pool's elements as the code searches them
-abbrev pub graphBy : List ℕ → List ℕ → ℕ → Pool → List ℕ → List ℕ → Graph
-graphBy slots payload ts pool heads words = keptGraph (poolSearched slots payload ts pool) heads words
+abbrev pub graphBy : List ℕ → List ℕ → ℕ → Pool → List ℕ → List ℕ → List ℕ → Graph
+graphBy slots payload ts pool heads words catches = keptGraph (poolSearched slots payload ts pool) heads words catches
 
 -- ---- what the functions promise one another
 -- whether a step goes where no instruction starts

@@ -2,12 +2,12 @@
 -- of the numbers that keep a code is found of its walks. No contract of a call cites it.
 -- The head, the word and the refusal that an instruction of so many bytes is kept as, by its kind: heads and words are those of
 -- search/specs/mirror/Kept.antt.
-use Prim.Native.Nat.{ℕ, _+_, _-_, _*_}
+use Prim.Native.Nat.{ℕ, _+_, _-_, _*_, _<_}
 use mathlib.Core.Path.{_≡_}
 use mathlib.Core.Bool.{Bool, true, false, cond, not}
 use mathlib.Core.List.{List}
 use lib.Dec.{eqb, ltb}
-use lib.ListN.{getD}
+use lib.ListN.{getD, length}
 use Rattle.decoder.specs.declared.Instr.{Instr}
 use Rattle.decoder.specs.declared.Outcome.{Outcome}
 use Rattle.decoder.specs.declared.Decoded.{Decoded}
@@ -21,6 +21,7 @@ use Rattle.targets.specs.declared.Target.{Target}
 use Rattle.targets.specs.declared.Table.{Table}
 use Rattle.targets.specs.declared.Table.the-variants as table
 use Rattle.graph.specs.Graph.{isStart}
+use Rattle.handlers.specs.mirror.Catches.{catchWord}
 use Rattle.search.specs.mirror.Kept.{wordOf}
 use Rattle.steps.specs.declared.Kept.{Kept}
 use Rattle.steps.specs.Steps.{Source, toTarget, walkGraph}
@@ -73,3 +74,8 @@ pub record Holds (s : Source) (heads words : List ℕ) (o : ℕ) : Type 0 where
 pub record Keeps (s : Source) (heads words : List ℕ) : Type 0 where
   pub starts : (t : ℕ) → isStart (walkGraph s) t ≡ not (eqb (getD heads t 0) 0)
   pub holds : (t : ℕ) → (getD heads t 0 ≡ 0 → ⊥) → Holds s heads words t
+
+-- a table of words has that of each instruction
+abbrev pub Catches : Source → List ℕ → Type 0
+Catches s catches = (o : ℕ) → o < length (s .code) → decodedAt s o .outcome ≡ Outcome.Done
+    → getD catches o 0 ≡ catchWord (s .handlers) (s .opcodes .returns (decodedAt s o .instr .opcode)) o

@@ -6,6 +6,7 @@ use denote.Ref.{now}
 use Rattle.laws.proofs.Tests.{fell, held}
 use Rattle.function.specs.declared.Function.{Function}
 use Rattle.function.specs.Files.{Files, filesOf}
+use Rattle.walk.specs.Walk.{givenOf}
 use Rattle.walk.specs.mirror.Search.{walkSearched}
 use Rattle.walk.proofs.Answers.{walked-as}
 use Rattle.walk.proofs.Searched.{object-short, object-unheld, object-walked}
@@ -44,18 +45,18 @@ is-held-requires c κs = search needs
 
 walk-source-requires : tie.Need-walk-source-requires
 walk-source-requires c κs =
-    let s = c .before .before .before .before .before .before .before .before .before .before .before .before .before .before .before .before .before .before .before .before .before in
+    let s = c .before .before .before .before .before .before .before .before .before .before .before .before .before .before .before .before .before .before .before .before .before .before in
     let e = c .before .before .function-of .ensures in
-    (object-short (files s) (s .args .object) _ _ (c .before .before .before .before .before .before .before .before .h .given .0 .0) (c .before .before .before .before .before .before .before .before .before .before .before .layout-of .ensures) (sym (c .before .before .before .before .before .before .before .before .before .before .header-at-unchecked .ensures) ∙ c .before .before .before .before .before .before .before .before .h .given .1) (c .before .lent .ensures), ap (λ (x : Function). x .wide) e, ap (λ (x : Function). x .extra) e)
+    (object-short (files s) (givenOf (now (s .args .handlers))) (s .args .object) _ _ (c .before .before .before .before .before .before .before .before .h .given .0 .0) (c .before .before .before .before .before .before .before .before .before .before .before .layout-of .ensures) (sym (c .before .before .before .before .before .before .before .before .before .before .header-at-unchecked .ensures) ∙ c .before .before .before .before .before .before .before .before .h .given .1) (c .before .lent .ensures), ap (λ (x : Function). x .wide) e, ap (λ (x : Function). x .extra) e)
 
 -- the code that the header tells of
 abbrev told : tie.After-is-held → List ℕ
-told k = take (k .before .before .h .given .0 .0 .«code_len») (drop (k .before .before .h .given .0 .0 .«code_at») (now (k .before .before .before .before .before .before .before .before .before .before .before .before .before .before .before .args .payload)))
+told k = take (k .before .before .h .given .0 .0 .«code_len») (drop (k .before .before .h .given .0 .0 .«code_at») (now (k .before .before .before .before .before .before .before .before .before .before .before .before .before .before .before .before .args .payload)))
 
 returns : tie.Need-returns
 returns c =
-    let s = c .before .before .before .before .before .before .before .before .before .before .before .before .before .before .before .before in
-    object-unheld (files s) (s .args .object) (told (c .before)) _ (c .before .before .before .h .given .0 .0) (c .before .before .before .before .before .before .layout-of .ensures) (sym (c .before .before .before .before .before .header-at-unchecked .ensures) ∙ c .before .before .before .h .given .1) refl (now (s .args .marks)) (fell (c .before .is-held .ensures) (c .if1 .taken))
+    let s = c .before .before .before .before .before .before .before .before .before .before .before .before .before .before .before .before .before in
+    object-unheld (files s) (givenOf (now (s .args .handlers))) (s .args .object) (told (c .before)) _ (c .before .before .before .h .given .0 .0) (c .before .before .before .before .before .before .layout-of .ensures) (sym (c .before .before .before .before .before .header-at-unchecked .ensures) ∙ c .before .before .before .h .given .1) refl (now (s .args .marks)) (fell (c .before .is-held .ensures) (c .if1 .taken))
 
 returns-2 : tie.Need-returns-2
 unfolding walkSearched
@@ -66,8 +67,8 @@ same-length c = search needs
 
 returns-3 : tie.Need-returns-3
 returns-3 c =
-    let s = c .before .before .before .before .before .before .before .before .before .before .before .before .before .before .before .before .before .before .before .before .before .before .before .before in
-    let e = object-walked (files s) (s .args .object) _ _ (c .before .before .before .before .before .before .before .before .before .before .before .h .given .0 .0) (c .before .before .before .before .before .before .before .before .before .before .before .before .before .before .layout-of .ensures) (sym (c .before .before .before .before .before .before .before .before .before .before .before .before .before .header-at-unchecked .ensures) ∙ c .before .before .before .before .before .before .before .before .before .before .before .h .given .1) (c .before .before .before .before .lent .ensures) (held (c .before .before .before .before .before .before .before .before .before .is-held .ensures) (c .before .before .before .before .before .before .before .before .if1 .left)) (now (s .args .marks)) (c .before .before .before .before .before .function-of .result) _ _ (c .before .before .before .before .before .function-of .ensures) (c .before .before .before .before .before .before .before .pool-of .ensures) in
+    let s = c .before .before .before .before .before .before .before .before .before .before .before .before .before .before .before .before .before .before .before .before .before .before .before .before .before in
+    let e = object-walked (files s) (givenOf (now (s .args .handlers))) (s .args .object) _ _ (c .before .before .before .before .before .before .before .before .before .before .before .h .given .0 .0) (c .before .before .before .before .before .before .before .before .before .before .before .before .before .before .layout-of .ensures) (sym (c .before .before .before .before .before .before .before .before .before .before .before .before .before .header-at-unchecked .ensures) ∙ c .before .before .before .before .before .before .before .before .before .before .before .h .given .1) (c .before .before .before .before .lent .ensures) (held (c .before .before .before .before .before .before .before .before .before .is-held .ensures) (c .before .before .before .before .before .before .before .before .if1 .left)) (now (s .args .marks)) (c .before .before .before .before .before .function-of .result) _ _ (c .before .before .before .before .before .function-of .ensures) (c .before .before .before .before .before .before .before .pool-of .ensures) in
     walked-as e (c .before .before .walk-source .ensures)
 
 pub walk-object-spec : {M : Type 1} → statement M

@@ -2,8 +2,8 @@
 -- `walked-searched` of proofs/Searched.antt say that they are those of ../Walk.antt.
 use Prim.Native.Nat.{ℕ}
 use mathlib.Core.Path.{_≡_}
-use mathlib.Core.List.{List}
-use lib.ListN.{getD}
+use mathlib.Core.List.{List, []}
+use lib.ListN.{getD, length}
 use Rattle.refusal.specs.declared.Check.{Check}
 use Rattle.refusal.specs.declared.Check.the-variants.{Ok}
 use Rattle.refusal.specs.Check.{firstRefusal, guardedOn}
@@ -22,16 +22,26 @@ use Rattle.function.specs.declared.Function.{Function}
 use Rattle.function.specs.Files.{Files}
 use Rattle.function.specs.Code.{codeOf, headerCheck, codeCheck, listingCheck}
 use Rattle.function.specs.mirror.Pool.{poolFound}
+use Rattle.handlers.specs.Handlers.{checkHandlers}
 use Rattle.steps.specs.Steps.{Source, listing}
-use Rattle.steps.specs.mirror.Keeping.{Keeps}
-use Rattle.walk.specs.Walk.{walkSource, heldCheck}
+use Rattle.steps.specs.mirror.Keeping.{Keeps, Catches}
+use Rattle.walk.specs.Walk.{Given, walkSource, heldCheck}
 use Rattle.walk.specs.declared.Walked.{Walked}
 use Rattle.walk.specs.declared.Walked.the-variants as walked
 
 -- the source that the lent parts make, with the pool's elements by search
 abbrev pub sourceOf : List ℕ → List ℕ → List ℕ → List ℕ → List ℕ → Function → Source
 sourceOf code ops types slots payload f =
-    record { code = code; opcodes = opcodesOf ops; types = types; rfs = f .frame .«reg_file_start»; pooled = found (f .pool); elem = poolSearched slots payload (f .ts) (f .pool) }
+    record { code = code; opcodes = opcodesOf ops; types = types; rfs = f .frame .«reg_file_start»; pooled = found (f .pool); elem = poolSearched slots payload (f .ts) (f .pool); handlers = [] }
+
+-- with handler records
+abbrev pub caughtBy : Source → List ℕ → Source
+caughtBy s handlers = record { code = s .code; opcodes = s .opcodes; types = s .types; rfs = s .rfs; pooled = s .pooled; elem = s .elem; handlers = handlers }
+
+-- the check of the handler records was made, and a table has the words of what they catch
+pub record Late (s : Source) (catches : List ℕ) (late : Check) : Type 0 where
+  pub check : late ≡ checkHandlers (s .handlers) (length (s .code))
+  pub words : late ≡ Ok → Catches s catches
 
 -- the table's parts that were found once: the opcodes' flows and the prefix opcodes
 pub record Tabled (ops flows : List ℕ) (f : Function) : Type 0 where
@@ -52,17 +62,21 @@ pub record Started (s : Source) (heads words : List ℕ) (r : Check) : Type 0 wh
 abbrev pub WalkedBy : Walked × List ℕ → Walked → List ℕ → Type 0
 WalkedBy a r M = (r ≡ a .0) × (M ≡ a .1)
 
+-- the same of a source whose handler records' check, and the words of what they catch, were lent
+abbrev pub WalkedLate : Source → List ℕ → Check → List ℕ → Walked → List ℕ → Type 0
+WalkedLate s catches late marks r M = (hs : List ℕ) → Late (caughtBy s hs) catches late → WalkedBy (walkSource (caughtBy s hs) marks) r M
+
 -- ---- the calls, by the searches that the code makes
 -- code with a layout and a pool
-abbrev pub sourceBy : List ℕ → List ℕ → List ℕ → List ℕ → List ℕ → Layout → Pool → Source
-sourceBy code ops types slots payload l p =
-    record { code = code; opcodes = opcodesOf ops; types = types; rfs = l .frame .«reg_file_start»; pooled = found p; elem = poolSearched slots payload (l .«tagged_size») p }
+abbrev pub sourceBy : List ℕ → List ℕ → List ℕ → List ℕ → List ℕ → Given → Layout → Pool → Source
+sourceBy code ops types slots payload g l p =
+    record { code = code; opcodes = opcodesOf ops; types = types; rfs = l .frame .«reg_file_start»; pooled = found p; elem = poolSearched slots payload (l .«tagged_size») p; handlers = g .handlers }
 
 abbrev pub headerFound : Files → Object → HeaderAnswer
 headerFound f o = headerSearched (f .slots) (f .payload) o (layoutOf (f .layout))
 
 -- the walks of an object whose files are good
-unfoldable pub walkSearched : Files → Object → List ℕ → Walked × List ℕ
-walkSearched f o marks =
+unfoldable pub walkSearched : Files → Given → Object → List ℕ → Walked × List ℕ
+walkSearched f g o marks =
     guardedOn (firstRefusal (headerCheck (headerFound f o)) (heldCheck (headerFound f o))) walked.Refused marks
-    (walkSource (sourceBy (codeOf f (headerFound f o)) (f .opcodes) (f .types) (f .slots) (f .payload) (layoutOf (f .layout)) (poolFound (f .objects) (f .slots) (layoutOf (f .layout)) o)) marks)
+    (walkSource (sourceBy (codeOf f (headerFound f o)) (f .opcodes) (f .types) (f .slots) (f .payload) g (layoutOf (f .layout)) (poolFound (f .objects) (f .slots) (layoutOf (f .layout)) o)) marks)
