@@ -8,12 +8,6 @@ use Rattle.disasm.proofs.list_header.Tie as tie
 function-of-requires : tie.Need-function-of-requires
 function-of-requires c κs = search needs
 
-flow-numbers-requires : tie.Need-flow-numbers-requires
-flow-numbers-requires c κs = search needs
-
-slice-aggregate-list-code : tie.Need-slice-aggregate-list-code
-slice-aggregate-list-code c = search needs
-
 list-code-requires : tie.Need-list-code-requires
 list-code-requires c κs = search needs
 
@@ -30,8 +24,6 @@ list-header-spec =
     tie.close
     (tie.spec
     function-of-requires
-    flow-numbers-requires
-    slice-aggregate-list-code
     list-code-requires
     same-length
     returns)
