@@ -518,6 +518,10 @@ pub fn is_old(opcodes: &[u8], types: &[u8]) -> bool {
     to_new(opcodes, types, &mut []) == Err(Refusal { number: 17, place: 0 })
 }
 
+/// What to do about a file of which `is_old` is true, behind its name.
+pub const OLD_RECORDS: &str =
+    "has records of 64 bytes: jscd_convert new OPCODES TYPES makes records of 72";
+
 const DONE: u8 = 0;
 const END: u8 = 255;
 const LEAVES: u8 = 254;
