@@ -70,8 +70,8 @@ uint8_t jscd_walk(uint8_t *marks, size_t marks_len,
 
 /* The same walks with exception handlers: `handlers` has records of 12 bytes, up to 4,096, each of three 4-byte numbers, little-endian: start, end,
    handler offset. From an instruction whose offset (its prefix's, where it has one) is at least start and below end a walk may also go to the handler:
-   to that of the last record that holds the offset. Throw, ReThrow and Abort, which else end a walk, have this step too; Return and
-   SuspendGenerator have not. It is judged as a jump: it leaves where no instruction starts at the handler offset, which is not tested otherwise.
+   to that of the last record that holds the offset. An instruction that else ends a walk, as Throw, ReThrow and Abort do, has this step too; Return and
+   SuspendGenerator have not, by their names, whatever their flow. It is judged as a jump: it leaves where no instruction starts at the handler offset, which is not tested otherwise.
    The answer and the marks are told as by jscd_walk, over these walks; with no bytes of handlers it is jscd_walk. Two refusals more, behind 18:
    24  handlers_len is not that of whole records, or of more than 4,096; *place is 0
    25  a record's start is not below its end, or its end is beyond the code; *place is the lowest such record's number. Empty code has every end

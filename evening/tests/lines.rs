@@ -166,8 +166,15 @@ fn a_flow_that_is_refused() {
     let mut opcodes = std::fs::read(&file).unwrap();
     opcodes[3 * 72 + 50] = 6;
     std::fs::write(&file, opcodes).unwrap();
-    let (status, out, _) = call(both(&input));
+    let [from, to] = both(&input);
+    let page = to.join("index.html");
+    let (status, out, _) = call([Path::new("--html"), &page, &from, &to]);
     assert_eq!((status, out.as_str()), (1, "sample refused 26 at 3\n"));
+    let page = std::fs::read_to_string(page).unwrap();
+    assert!(
+        page.contains("<p>In the opcode record of that number one of bytes 50 to 53"),
+        "{page}"
+    );
 }
 
 /// Wish 6. The bytes decide, not the name: a LdaZero that ends.
