@@ -2,8 +2,8 @@ use Prim.Native.Nat.{_-_, _≤_}
 use native.Mathlib.Omega.{arith}
 use lib.ListN.{length}
 use borrow.Author.Needs.{needs}
-use Rattle.files.proofs.is_word.Statement.{statement}
-use Rattle.files.proofs.is_word.Tie as tie
+use Rattle.inputs.proofs.is_word.Statement.{statement}
+use Rattle.inputs.proofs.is_word.Tie as tie
 
 abbrev Inv-loop : tie.InvT-loop
 Inv-loop s word i₀ i = i ≤ length s
