@@ -52,10 +52,10 @@ pub fn is_return(opcodes: &[u8], op: u8) -> bool
     ensures { λ r. ⌜ r ≡ isReturn (now (opcodes .entry)) op ⌝ }
 {
     let at = tables::opcode_start(op);
-    if tables::name_is(opcodes, at, 40, b"Return") {
+    if tables::name_is(opcodes, at, tables::OPCODE_NAME, b"Return") {
         return true;
     }
-    tables::name_is(opcodes, at, 40, b"SuspendGenerator")
+    tables::name_is(opcodes, at, tables::OPCODE_NAME, b"SuspendGenerator")
 }
 
 // The number of each opcode's flow, for the first 256 opcodes.

@@ -38,11 +38,8 @@ module _ (s : List ℕ) (r w : ℕ) (some-record : r ≡ 0 → ⊥) (is : w ≡ 
       go zero h e = absurd (h refl)
       go (suc r) h e = let z : suc r - 1 ≡ r = omega arith in ap (λ (x : ℕ). suc (min x 65536)) (sym (e ∙ ap (λ (x : ℕ). leAt s (x * 12 + 8) 4) z))
 
-  pub word-high : 65536 < w → 65537 ≡ wordBy s r
-  word-high h = omega (arith, h, word-at)
-
-  pub word-low : w ≤ 65536 → w + 1 ≡ wordBy s r
-  word-low h = omega (arith, h, word-at)
+  pub word-is : {v : ℕ} → v ≡ min w 65536 → v + 1 ≡ wordBy s r
+  word-is h = omega (arith, h, word-at)
 
 -- ---- one after the other
 module _ (code ops s B : List ℕ) (wide extra : ℕ) (C₀ : List ℕ) where
@@ -79,3 +76,15 @@ module _ (code ops s B : List ℕ) (wide extra : ℕ) (C₀ : List ℕ) where
   unfolding catchWord
   caught {C} {o} h same k p t l =
       k .done t (omega (arith, h, l)) ∙ ap (λ (x : ℕ). cond (isReturn ops (opcodeAt code wide extra t)) 0 x) (ap (wordBy s) (p t (omega (arith, same, l))) ∙ word-last s t (handlerCount s))
+
+-- without records zeros are the words
+pub caught-none : (code ops s : List ℕ) (wide extra : ℕ) (C : List ℕ) → length s ≡ 0 → ((o : ℕ) → getD C o 0 ≡ 0) → Caught code ops s wide extra C
+unfolding catchWord handlerAmong
+caught-none code ops s wide extra C none clear o l = clear o ∙ none-word (isReturn ops (opcodeAt code wide extra o))
+  where
+    count : handlerCount s ≡ 0
+    count = omega (arith, none)
+
+    none-word : (returns : Bool) → 0 ≡ cond returns 0 (handlerWord (handlerAmong s o (handlerCount s)))
+    none-word true = refl
+    none-word false = sym (ap (λ (n : ℕ). handlerWord (handlerAmong s o n)) count)

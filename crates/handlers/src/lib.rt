@@ -11,9 +11,16 @@ ghost use Rattle.flow.specs.Flow.{isReturn};
 ghost use Rattle.handlers.specs.Handlers.{handlerCount, rangeStart, rangeEnd, handlersWhole, badHandler, checkHandlers};
 ghost use Rattle.handlers.specs.mirror.Catches.{opcodeAt, wordBy, Painted, Filled, Said, Laid, Caught, Fits};
 
+// A record in bytes, and how many there may be.
 const HANDLER_SIZE: usize = 12;
 
 const MOST_HANDLERS: usize = 4096;
+
+// The longest code: at that place no instruction starts.
+const MOST_CODE: usize = 65536;
+
+// Places in a block.
+const BLOCK: usize = 256;
 
 // Checks 24 and 25, for a code of so many bytes.
 pub fn check_handlers(handlers: &[u8], len: usize) -> Check
@@ -66,7 +73,8 @@ fn is_range(handlers: &[u8], r: usize, len: usize) -> bool
     end as usize <= len
 }
 
-// The word of each place of a code, in room of zeros for it (specs/mirror/Catches.antt). In other room nothing is promised.
+// The word of each place of a code, in room of zeros for it (specs/mirror/Catches.antt); in other room nothing is promised. Without records the zeros
+// are the words.
 pub fn catch_table(
     code: &[u8],
     opcodes: &[u8],
@@ -81,10 +89,13 @@ pub fn catch_table(
     if catches.len() != code.len() {
         return;
     }
-    if 65536 < code.len() {
+    if MOST_CODE < code.len() {
         return;
     }
-    if 49152 < handlers.len() {
+    if MOST_HANDLERS * HANDLER_SIZE < handlers.len() {
+        return;
+    }
+    if handlers.len() == 0 {
         return;
     }
     let mut blocks = [0u32; 256];
@@ -144,14 +155,14 @@ fn paint(places: &mut [u32], blocks: &mut [u32], from: usize, to: usize, v: u32)
     requires { ⌜ (from < to) × (to ≤ length (now places)) × (length (now places) ≤ 65536) × (length (now blocks) ≡ 256) ⌝ }
     ensures { λ _. ⌜ Said (now (places .entry)) (now (blocks .entry)) (now (places .exit)) (now (blocks .exit)) from to v ⌝ }
 {
-    let first = (from + 255) / 256;
-    let last = to / 256;
+    let first = (from + 255) / BLOCK;
+    let last = to / BLOCK;
     if last < first {
         return fill(places, from, to, v);
     }
-    fill(places, from, first * 256, v);
+    fill(places, from, first * BLOCK, v);
     fill(blocks, first, last, v);
-    fill(places, last * 256, to, v);
+    fill(places, last * BLOCK, to, v);
 }
 
 fn fill(table: &mut [u32], from: usize, to: usize, v: u32)
@@ -181,7 +192,7 @@ fn catch_all(
 {
     let mut o: usize = 0;
     while o < catches.len() {
-        let r = higher(catches[o], blocks[o / 256]);
+        let r = higher(catches[o], blocks[o / BLOCK]);
         catches[o] = catch_at(code, opcodes, handlers, wide, extra, o, r);
         o += 1;
     }
@@ -214,10 +225,7 @@ fn catch_at(
     }
     let at = (r - 1) as usize * HANDLER_SIZE + 8;
     let offset = words::u32_at(handlers, at);
-    if 65536 < offset {
-        return 65537;
-    }
-    offset + 1
+    text::min(offset as usize, MOST_CODE) as u32 + 1
 }
 
 // The opcode of what stands at o: behind a prefix the next byte.

@@ -22,6 +22,12 @@ pub enum Searched {
     Leaves(usize, usize),
 }
 
+// Where the elements of a table are read: the tagged size and the pool.
+pub struct Elements {
+    pub ts: u8,
+    pub pool: Pool,
+}
+
 // An offset, where one was found.
 enum Found {
     At(usize),
@@ -32,8 +38,7 @@ enum Found {
 pub fn search(
     slots: &[u8],
     payload: &[u8],
-    ts: u8,
-    pool: Pool,
+    e: Elements,
     heads: &[u32],
     words: &[u32],
     catches: &[u32],
@@ -41,7 +46,8 @@ pub fn search(
     queue: &mut [u16],
 ) -> Searched
     ensures { λ r. ⌜ (Fits (now (heads .entry)) (now (marks .entry)) (now (queue .entry))
-        → IsFound (graphBy (now (slots .entry)) (now (payload .entry)) ts pool (now (heads .entry)) (now (words .entry)) (now (catches .entry)))
+        → IsFound (graphBy (now (slots .entry)) (now (payload .entry)) (e .ts) (e .pool)
+        (now (heads .entry)) (now (words .entry)) (now (catches .entry)))
         (length (now (heads .entry))) r (now (marks .exit))) ⌝ }
 {
     let n = heads.len();
@@ -54,13 +60,13 @@ pub fn search(
     if queue.len() < n {
         return Searched::Closed;
     }
-    let blocks = targets::pool_blocks(slots, ts, pool);
+    let pool = e.pool;
+    let blocks = targets::pool_blocks(slots, e.ts, pool);
     search_in(
         slots,
         payload,
         &blocks,
-        ts,
-        pool,
+        e,
         heads,
         words,
         catches,
@@ -74,8 +80,7 @@ fn search_in(
     slots: &[u8],
     payload: &[u8],
     blocks: &[u32],
-    ts: u8,
-    pool: Pool,
+    e: Elements,
     heads: &[u32],
     words: &[u32],
     catches: &[u32],
@@ -83,8 +88,9 @@ fn search_in(
     queue: &mut [u16],
 ) -> Searched
     requires { ⌜ Fits (now heads) (now marks) (now queue)
-        × PoolBlocked (now slots) ts pool (now blocks) ⌝ }
-    ensures { λ r. ⌜ IsFound (graphBy (now (slots .entry)) (now (payload .entry)) ts pool (now (heads .entry)) (now (words .entry)) (now (catches .entry)))
+        × PoolBlocked (now slots) (e .ts) (e .pool) (now blocks) ⌝ }
+    ensures { λ r. ⌜ IsFound (graphBy (now (slots .entry)) (now (payload .entry)) (e .ts) (e .pool)
+        (now (heads .entry)) (now (words .entry)) (now (catches .entry)))
         (length (now (heads .entry))) r (now (marks .exit)) ⌝ }
 {
     clear(marks);
@@ -95,8 +101,7 @@ fn search_in(
         slots,
         payload,
         blocks,
-        ts,
-        pool,
+        e,
         heads,
         words,
         catches,
@@ -110,8 +115,7 @@ fn levels(
     slots: &[u8],
     payload: &[u8],
     blocks: &[u32],
-    ts: u8,
-    pool: Pool,
+    e: Elements,
     heads: &[u32],
     words: &[u32],
     catches: &[u32],
@@ -119,9 +123,10 @@ fn levels(
     queue: &mut [u16],
 ) -> Searched
     requires { ⌜ Held (now marks) (now queue) 0 × (length (now marks) ≡ length (now heads))
-        × (isStart (graphBy (now slots) (now payload) ts pool (now heads) (now words) (now catches)) 0 ≡ true)
-        × PoolBlocked (now slots) ts pool (now blocks) ⌝ }
-    ensures { λ r. ⌜ Answer (graphBy (now (slots .entry)) (now (payload .entry)) ts pool (now (heads .entry)) (now (words .entry)) (now (catches .entry)))
+        × (isStart (graphBy (now slots) (now payload) (e .ts) (e .pool) (now heads) (now words) (now catches)) 0 ≡ true)
+        × PoolBlocked (now slots) (e .ts) (e .pool) (now blocks) ⌝ }
+    ensures { λ r. ⌜ Answer (graphBy (now (slots .entry)) (now (payload .entry)) (e .ts) (e .pool)
+        (now (heads .entry)) (now (words .entry)) (now (catches .entry)))
         (length (now (heads .entry))) (now (marks .exit)) (findingAs r) ⌝ }
 {
     let mut lo = 0;
@@ -132,8 +137,7 @@ fn levels(
             slots,
             payload,
             blocks,
-            ts,
-            pool,
+            e,
             heads,
             words,
             catches,
@@ -149,8 +153,7 @@ fn levels(
             slots,
             payload,
             blocks,
-            ts,
-            pool,
+            e,
             heads,
             words,
             catches,
@@ -171,8 +174,7 @@ fn lowest(
     slots: &[u8],
     payload: &[u8],
     blocks: &[u32],
-    ts: u8,
-    pool: Pool,
+    e: Elements,
     heads: &[u32],
     words: &[u32],
     catches: &[u32],
@@ -181,8 +183,9 @@ fn lowest(
     hi: usize,
 ) -> Found
     requires { ⌜ (lo ≤ hi) × (hi ≤ length (now queue))
-        × PoolBlocked (now slots) ts pool (now blocks) ⌝ }
-    ensures { λ r. ⌜ Lowest (graphBy (now (slots .entry)) (now (payload .entry)) ts pool (now (heads .entry)) (now (words .entry)) (now (catches .entry)))
+        × PoolBlocked (now slots) (e .ts) (e .pool) (now blocks) ⌝ }
+    ensures { λ r. ⌜ Lowest (graphBy (now (slots .entry)) (now (payload .entry)) (e .ts) (e .pool)
+        (now (heads .entry)) (now (words .entry)) (now (catches .entry)))
         (now (queue .entry)) lo hi (foundAs r) ⌝ }
 {
     let mut i = lo;
@@ -190,7 +193,7 @@ fn lowest(
     while i < hi {
         let o = queue[i];
         i += 1;
-        if exits(slots, payload, blocks, ts, pool, heads, words, catches, o) {
+        if exits(slots, payload, blocks, e, heads, words, catches, o) {
             f = lower(f, o);
         }
     }
@@ -217,8 +220,7 @@ fn push_level(
     slots: &[u8],
     payload: &[u8],
     blocks: &[u32],
-    ts: u8,
-    pool: Pool,
+    e: Elements,
     heads: &[u32],
     words: &[u32],
     catches: &[u32],
@@ -228,10 +230,11 @@ fn push_level(
     hi: usize,
 ) -> usize
     requires { ⌜ Held (now marks) (now queue) hi × (length (now marks) ≡ length (now heads)) × (lo ≤ hi)
-        × Quiet (graphBy (now slots) (now payload) ts pool (now heads) (now words) (now catches)) (now queue) lo hi
-        × PoolBlocked (now slots) ts pool (now blocks) ⌝ }
+        × Quiet (graphBy (now slots) (now payload) (e .ts) (e .pool) (now heads) (now words) (now catches)) (now queue) lo hi
+        × PoolBlocked (now slots) (e .ts) (e .pool) (now blocks) ⌝ }
     ensures { λ r. ⌜ Grown (now (queue .entry)) hi (now (marks .exit)) (now (queue .exit)) r
-        (SuccIn (graphBy (now (slots .entry)) (now (payload .entry)) ts pool (now (heads .entry)) (now (words .entry)) (now (catches .entry)))
+        (SuccIn (graphBy (now (slots .entry)) (now (payload .entry)) (e .ts) (e .pool)
+        (now (heads .entry)) (now (words .entry)) (now (catches .entry)))
         (now (queue .entry)) lo hi) ⌝ }
 {
     let mut end = hi;
@@ -242,8 +245,7 @@ fn push_level(
             slots,
             payload,
             blocks,
-            ts,
-            pool,
+            e,
             heads,
             words,
             catches,
@@ -262,15 +264,15 @@ fn exits(
     slots: &[u8],
     payload: &[u8],
     blocks: &[u32],
-    ts: u8,
-    pool: Pool,
+    e: Elements,
     heads: &[u32],
     words: &[u32],
     catches: &[u32],
     o: u16,
 ) -> bool
-    requires { ⌜ PoolBlocked (now slots) ts pool (now blocks) ⌝ }
-    ensures { λ r. ⌜ r ≡ exits (graphBy (now (slots .entry)) (now (payload .entry)) ts pool (now (heads .entry)) (now (words .entry)) (now (catches .entry))) o ⌝ }
+    requires { ⌜ PoolBlocked (now slots) (e .ts) (e .pool) (now blocks) ⌝ }
+    ensures { λ r. ⌜ r ≡ exits (graphBy (now (slots .entry)) (now (payload .entry)) (e .ts) (e .pool)
+        (now (heads .entry)) (now (words .entry)) (now (catches .entry))) o ⌝ }
 {
     let h = head_at(heads, o as usize);
     if on_leaves(heads, o, h) {
@@ -283,7 +285,7 @@ fn exits(
         return true;
     }
     if h / 1024 % 2 == 1 {
-        return table_leaves(slots, payload, blocks, ts, pool, heads, words, o, h);
+        return table_leaves(slots, payload, blocks, e, heads, words, o, h);
     }
     false
 }
@@ -325,16 +327,15 @@ fn table_leaves(
     slots: &[u8],
     payload: &[u8],
     blocks: &[u32],
-    ts: u8,
-    pool: Pool,
+    e: Elements,
     heads: &[u32],
     words: &[u32],
     o: u16,
     h: u32,
 ) -> bool
-    requires { ⌜ PoolBlocked (now slots) ts pool (now blocks) ⌝ }
+    requires { ⌜ PoolBlocked (now slots) (e .ts) (e .pool) (now blocks) ⌝ }
     ensures { λ r. ⌜ r ≡ any (offHeads (now (heads .entry)))
-        (entriesFrom (poolSearched (now (slots .entry)) (now (payload .entry)) ts pool) (hereOf o h)
+        (entriesFrom (poolSearched (now (slots .entry)) (now (payload .entry)) (e .ts) (e .pool)) (hereOf o h)
         (getD (now (words .entry)) o 0) (countOf h)) ⌝ }
 {
     let at = here_of(o, h);
@@ -342,15 +343,7 @@ fn table_leaves(
     let count = h / 4096;
     let mut k: u32 = 0;
     while k < count {
-        let target = entry_target(
-            slots,
-            payload,
-            blocks,
-            ts,
-            pool,
-            at,
-            first as u64 + k as u64,
-        );
+        let target = entry_target(slots, payload, blocks, e, at, first as u64 + k as u64);
         if off_target(heads, target) {
             return true;
         }
@@ -374,8 +367,7 @@ fn push_steps(
     slots: &[u8],
     payload: &[u8],
     blocks: &[u32],
-    ts: u8,
-    pool: Pool,
+    e: Elements,
     heads: &[u32],
     words: &[u32],
     catches: &[u32],
@@ -385,29 +377,18 @@ fn push_steps(
     tail: usize,
 ) -> usize
     requires { ⌜ Held (now marks) (now queue) tail × (length (now marks) ≡ length (now heads))
-        × (exits (graphBy (now slots) (now payload) ts pool (now heads) (now words) (now catches)) o ≡ false)
-        × PoolBlocked (now slots) ts pool (now blocks) ⌝ }
+        × (exits (graphBy (now slots) (now payload) (e .ts) (e .pool) (now heads) (now words) (now catches)) o ≡ false)
+        × PoolBlocked (now slots) (e .ts) (e .pool) (now blocks) ⌝ }
     ensures { λ r. ⌜ Grown (now (queue .entry)) tail (now (marks .exit)) (now (queue .exit)) r
-        (Succ (graphBy (now (slots .entry)) (now (payload .entry)) ts pool (now (heads .entry)) (now (words .entry)) (now (catches .entry))) o) ⌝ }
+        (Succ (graphBy (now (slots .entry)) (now (payload .entry)) (e .ts) (e .pool)
+        (now (heads .entry)) (now (words .entry)) (now (catches .entry))) o) ⌝ }
 {
     let h = head_at(heads, o as usize);
     let a = push_on(o, h, marks, queue, tail);
     let t = push_target(words, o, h, marks, queue, a);
     let b = push_catch(catches, o, marks, queue, t);
     if h / 1024 % 2 == 1 {
-        return push_table(
-            slots,
-            payload,
-            blocks,
-            ts,
-            pool,
-            words,
-            o,
-            h,
-            marks,
-            queue,
-            b,
-        );
+        return push_table(slots, payload, blocks, e, words, o, h, marks, queue, b);
     }
     b
 }
@@ -459,8 +440,7 @@ fn push_table(
     slots: &[u8],
     payload: &[u8],
     blocks: &[u32],
-    ts: u8,
-    pool: Pool,
+    e: Elements,
     words: &[u32],
     o: u16,
     h: u32,
@@ -469,10 +449,10 @@ fn push_table(
     tail: usize,
 ) -> usize
     requires { ⌜ Held (now marks) (now queue) tail
-        × Below (entriesFrom (poolSearched (now slots) (now payload) ts pool) (hereOf o h) (getD (now words) o 0) (countOf h)) (length (now marks))
-        × PoolBlocked (now slots) ts pool (now blocks) ⌝ }
+        × Below (entriesFrom (poolSearched (now slots) (now payload) (e .ts) (e .pool)) (hereOf o h) (getD (now words) o 0) (countOf h)) (length (now marks))
+        × PoolBlocked (now slots) (e .ts) (e .pool) (now blocks) ⌝ }
     ensures { λ r. ⌜ Grown (now (queue .entry)) tail (now (marks .exit)) (now (queue .exit)) r
-        (Goes (entriesFrom (poolSearched (now (slots .entry)) (now (payload .entry)) ts pool) (hereOf o h)
+        (Goes (entriesFrom (poolSearched (now (slots .entry)) (now (payload .entry)) (e .ts) (e .pool)) (hereOf o h)
         (getD (now (words .entry)) o 0) (countOf h))) ⌝ }
 {
     let at = here_of(o, h);
@@ -481,15 +461,7 @@ fn push_table(
     let mut end = tail;
     let mut k: u32 = 0;
     while k < count {
-        let target = entry_target(
-            slots,
-            payload,
-            blocks,
-            ts,
-            pool,
-            at,
-            first as u64 + k as u64,
-        );
+        let target = entry_target(slots, payload, blocks, e, at, first as u64 + k as u64);
         end = push_entry(target, marks, queue, end);
         k += 1;
     }
@@ -525,15 +497,15 @@ fn entry_target(
     slots: &[u8],
     payload: &[u8],
     blocks: &[u32],
-    ts: u8,
-    pool: Pool,
+    e: Elements,
     at: u64,
     n: u64,
 ) -> Target
-    requires { ⌜ PoolBlocked (now slots) ts pool (now blocks) ⌝ }
-    ensures { λ r. ⌜ r ≡ targetFrom at (smiOf (poolSearched (now (slots .entry)) (now (payload .entry)) ts pool n)) ⌝ }
+    requires { ⌜ PoolBlocked (now slots) (e .ts) (e .pool) (now blocks) ⌝ }
+    ensures { λ r. ⌜ r ≡ targetFrom at (smiOf (poolSearched (now (slots .entry)) (now (payload .entry)) (e .ts) (e .pool) n)) ⌝ }
 {
-    let Elem::Smi(v) = targets::pool_elem_in(slots, payload, blocks, ts, pool, n) else {
+    let pool = e.pool;
+    let Elem::Smi(v) = targets::pool_elem_in(slots, payload, blocks, e.ts, pool, n) else {
         return Target::Nothing;
     };
     Target::At(words::target_after(at, v))

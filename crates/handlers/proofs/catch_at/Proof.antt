@@ -1,11 +1,8 @@
+use mathlib.Core.Path.{refl, sym}
+use denote.Ref.{now}
 use Rattle.flow.specs.Flow.{isReturn}
 use Rattle.handlers.specs.mirror.Catches.{opcodeAt}
-use mathlib.Core.Bool.{Bool, cond}
-use Rattle.handlers.specs.mirror.Catches.{wordBy}
-use Rattle.handlers.proofs.Words.{word-none, word-high, word-low}
-use denote.Ref.{now}
-use mathlib.Core.Path.{refl, sym, ap, _∙_}
-use native.Mathlib.Omega.{arith}
+use Rattle.handlers.proofs.Words.{word-none, word-is}
 use borrow.Author.Needs.{needs}
 use Rattle.handlers.proofs.catch_at.Statement.{statement}
 use Rattle.handlers.proofs.catch_at.Tie as tie
@@ -37,14 +34,20 @@ add-at c = search needs
 u32-at-requires : tie.Need-u32-at-requires
 u32-at-requires c κs = search needs
 
-returns-3 : tie.Need-returns-3
-returns-3 c = let a = c .before .before .before .before .before .before .before .before .before .args in rw (← c .before .before .before .before .opcode-at .ensures, ← c .before .before .before .is-return .ensures, c .before .before .if2 .left) (word-high (now (a .handlers)) (a .r) _ (λ e. c .before .before .before .before .before .if1 .left e) (c .before .u32-at .ensures) (c .if3 .taken))
+cast-min : tie.Need-cast-min
+cast-min c = search needs
+
+min-requires : tie.Need-min-requires
+min-requires c κs = search needs
+
+cast-result : tie.Need-cast-result
+cast-result c = search needs
 
 add-result : tie.Need-add-result
 add-result c = search needs
 
-returns-4 : tie.Need-returns-4
-returns-4 c = let a = c .before .before .before .before .before .before .before .before .before .args in rw (← c .before .before .before .before .opcode-at .ensures, ← c .before .before .before .is-return .ensures, c .before .before .if2 .left) (word-low (now (a .handlers)) (a .r) _ (λ e. c .before .before .before .before .before .if1 .left e) (c .before .u32-at .ensures) (c .if3 .left))
+returns-3 : tie.Need-returns-3
+returns-3 c = let a = c .before .before .before .before .before .before .before .before .before .args in rw (← c .before .before .before .before .opcode-at .ensures, ← c .before .before .before .is-return .ensures, c .before .before .if2 .left) (word-is (now (a .handlers)) (a .r) _ (c .before .before .before .before .before .if1 .left) (c .before .u32-at .ensures) (c .min .ensures))
 
 pub catch-at-spec : {M : Type 1} → statement M
 catch-at-spec =
@@ -59,6 +62,8 @@ catch-at-spec =
     mul-at
     add-at
     u32-at-requires
-    returns-3
+    cast-min
+    min-requires
+    cast-result
     add-result
-    returns-4)
+    returns-3)

@@ -16,10 +16,10 @@ use Rattle.search.proofs.levels.Statement.{statement}
 use Rattle.search.proofs.levels.Tie as tie
 
 abbrev Inv-loop : tie.InvT-loop
-Inv-loop slots payload blocks ts pool heads words catches marks₀ queue₀ lo₀ hi₀ d₀ marks queue lo hi d = Level (graphBy slots payload ts pool heads words catches) marks queue lo hi d × (length marks ≡ length heads) × (length queue ≡ length queue₀)
+Inv-loop slots payload blocks e heads words catches marks₀ queue₀ lo₀ hi₀ d₀ marks queue lo hi d = Level (graphBy slots payload (e .ts) (e .pool) heads words catches) marks queue lo hi d × (length marks ≡ length heads) × (length queue ≡ length queue₀)
 
 abbrev μ-loop : tie.MeasureT-loop
-μ-loop slots payload blocks ts pool heads words catches marks₀ queue₀ lo₀ hi₀ d₀ marks queue lo hi d = length heads - lo
+μ-loop slots payload blocks e heads words catches marks₀ queue₀ lo₀ hi₀ d₀ marks queue lo hi d = length heads - lo
 
 -- from the loop's head back to the first push, and to the function's entry
 abbrev pushed : tie.At-loop Inv-loop μ-loop → tie.After-push Inv-loop μ-loop
@@ -29,7 +29,7 @@ abbrev start : tie.At-loop Inv-loop μ-loop → tie.Start Inv-loop μ-loop
 start i = pushed i .before .before .before .before .before .before .before .before .before .before .before
 
 abbrev the-graph : tie.At-loop Inv-loop μ-loop → Graph
-the-graph i = let a = start i .args in graphBy (now (a .slots)) (now (a .payload)) (a .ts) (a .pool) (now (a .heads)) (now (a .words)) (now (a .catches))
+the-graph i = let a = start i .args in graphBy (now (a .slots)) (now (a .payload)) (a .e .ts) (a .e .pool) (now (a .heads)) (now (a .words)) (now (a .catches))
 
 -- the scan's answer, at the variant that an arm knows
 told : (c : tie.After-lowest Inv-loop μ-loop) (f : Found) → c .lowest .result ≡ f
@@ -40,7 +40,7 @@ push-requires : tie.Need-push-requires Inv-loop μ-loop
 push-requires c κs =
     let s = c .before .before .before .before .before .before .before .before .before .before in
     let a = s .args in
-    (s .pre .0, omega (arith, s .pre .1, inside (poolSearched (now (a .slots)) (now (a .payload)) (a .ts) (a .pool)) (now (a .heads)) (now (a .words)) (now (a .catches)) 0 (s .pre .2)))
+    (s .pre .0, omega (arith, s .pre .1, inside (poolSearched (now (a .slots)) (now (a .payload)) (a .e .ts) (a .e .pool)) (now (a .heads)) (now (a .words)) (now (a .catches)) 0 (s .pre .2)))
 
 loop-holds : tie.Need-loop-holds Inv-loop μ-loop
 loop-holds c = let s = c .before .before .before .before .before .before .before .before .before .before .before .before .before .before .before in (level-start (s .pre .2) (c .before .before .before .before .push .ensures), c .before .before .before .before .push .kept .0 ∙ s .pre .1, refl)
@@ -80,8 +80,8 @@ loop-again c =
     let i = c .before .before .before .before .before .before .before .before .before .before .before .before in
     let p = c .before .before .before .before .push-level in (
       level-next (i .loop .inv .0) (told (c .before .before .before .before .before .before .before .before .before) _ (c .before .before .before .before .before .before .before .enum-told .given .1)) (c .before .before .before .before .before .before .before .before .before .before .before .loop-test .taken) (p .ensures),
-      p .kept .1 .1 .1 .1 .1 .1 .1 .1 .0 ∙ i .loop .inv .1,
-      p .kept .1 .1 .1 .1 .1 .1 .1 .1 .1 .0 ∙ i .loop .inv .2,
+      p .kept .1 .1 .1 .1 .1 .1 .1 .0 ∙ i .loop .inv .1,
+      p .kept .1 .1 .1 .1 .1 .1 .1 .1 .0 ∙ i .loop .inv .2,
     )
 
 same-length-3 : tie.Need-same-length-3 Inv-loop μ-loop

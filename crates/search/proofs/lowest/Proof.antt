@@ -12,16 +12,16 @@ use Rattle.search.proofs.lowest.Statement.{statement}
 use Rattle.search.proofs.lowest.Tie as tie
 
 abbrev Inv-loop : tie.InvT-loop
-Inv-loop slots payload blocks ts pool heads words catches queue lo hi i₀ f₀ i f = (lo ≤ i) × (i ≤ hi) × Lowest (graphBy slots payload ts pool heads words catches) queue lo i (foundAs f)
+Inv-loop slots payload blocks e heads words catches queue lo hi i₀ f₀ i f = (lo ≤ i) × (i ≤ hi) × Lowest (graphBy slots payload (e .ts) (e .pool) heads words catches) queue lo i (foundAs f)
 
 abbrev μ-loop : tie.MeasureT-loop
-μ-loop slots payload blocks ts pool heads words catches queue lo hi i₀ f₀ i f = hi - i
+μ-loop slots payload blocks e heads words catches queue lo hi i₀ f₀ i f = hi - i
 
 abbrev start : tie.At-loop Inv-loop μ-loop → tie.Start Inv-loop μ-loop
 start i = i .before .before .before .before .before .before .before .before
 
 abbrev the-graph : tie.At-loop Inv-loop μ-loop → Graph
-the-graph i = let a = start i .args in graphBy (now (a .slots)) (now (a .payload)) (a .ts) (a .pool) (now (a .heads)) (now (a .words)) (now (a .catches))
+the-graph i = let a = start i .args in graphBy (now (a .slots)) (now (a .payload)) (a .e .ts) (a .e .pool) (now (a .heads)) (now (a .words)) (now (a .catches))
 
 loop-holds : tie.Need-loop-holds Inv-loop μ-loop
 loop-holds c = (le-refl _, c .before .before .before .before .before .before .before .pre .0, λ i l u. absurd (omega arith))

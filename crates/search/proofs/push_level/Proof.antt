@@ -13,16 +13,16 @@ use Rattle.search.proofs.push_level.Statement.{statement}
 use Rattle.search.proofs.push_level.Tie as tie
 
 abbrev Inv-loop : tie.InvT-loop
-Inv-loop slots payload blocks ts pool heads words catches marks₀ queue₀ lo hi end₀ i₀ marks queue end i = (lo ≤ i) × (i ≤ hi) × Grown queue₀ hi marks queue end (SuccIn (graphBy slots payload ts pool heads words catches) queue₀ lo i) × (length marks ≡ length marks₀) × (length queue ≡ length queue₀)
+Inv-loop slots payload blocks e heads words catches marks₀ queue₀ lo hi end₀ i₀ marks queue end i = (lo ≤ i) × (i ≤ hi) × Grown queue₀ hi marks queue end (SuccIn (graphBy slots payload (e .ts) (e .pool) heads words catches) queue₀ lo i) × (length marks ≡ length marks₀) × (length queue ≡ length queue₀)
 
 abbrev μ-loop : tie.MeasureT-loop
-μ-loop slots payload blocks ts pool heads words catches marks₀ queue₀ lo hi end₀ i₀ marks queue end i = hi - i
+μ-loop slots payload blocks e heads words catches marks₀ queue₀ lo hi end₀ i₀ marks queue end i = hi - i
 
 abbrev start : tie.At-loop Inv-loop μ-loop → tie.Start Inv-loop μ-loop
 start i = i .before .before .before .before .before .before .before .before .before
 
 abbrev the-graph : tie.At-loop Inv-loop μ-loop → Graph
-the-graph i = let a = start i .args in graphBy (now (a .slots)) (now (a .payload)) (a .ts) (a .pool) (now (a .heads)) (now (a .words)) (now (a .catches))
+the-graph i = let a = start i .args in graphBy (now (a .slots)) (now (a .payload)) (a .e .ts) (a .e .pool) (now (a .heads)) (now (a .words)) (now (a .catches))
 
 loop-holds : tie.Need-loop-holds Inv-loop μ-loop
 loop-holds c = let s = c .before .before .before .before .before .before .before .before in (le-refl _, s .pre .2, grown-none (s .pre .0) (λ p x. absurd (omega (arith, x .1, x .2))), refl, refl)
@@ -58,8 +58,8 @@ loop-again c =
       omega (arith, i .loop .inv .0),
       omega (arith, h),
       level-more (the-graph i) _ _ _ refl (i .loop .inv .0) h (i .loop .inv .2) (p .ensures),
-      p .kept .1 .1 .1 .1 .1 .1 .1 .1 .1 .0 ∙ i .loop .inv .3,
-      p .kept .1 .1 .1 .1 .1 .1 .1 .1 .1 .1 .0 ∙ i .loop .inv .4,
+      p .kept .1 .1 .1 .1 .1 .1 .1 .1 .0 ∙ i .loop .inv .3,
+      p .kept .1 .1 .1 .1 .1 .1 .1 .1 .1 .0 ∙ i .loop .inv .4,
     )
 
 same-length : tie.Need-same-length Inv-loop μ-loop

@@ -12,18 +12,18 @@ use Rattle.search.proofs.push_table.Statement.{statement}
 use Rattle.search.proofs.push_table.Tie as tie
 
 abbrev Inv-loop : tie.InvT-loop
-Inv-loop slots payload blocks ts pool words o h marks₀ queue₀ tail at first count end₀ k₀ marks queue end k = Grown queue₀ tail marks queue end (Goes (entriesFrom (poolSearched slots payload ts pool) at first k)) × (length marks ≡ length marks₀) × (length queue ≡ length queue₀) × (k ≤ count)
+Inv-loop slots payload blocks e words o h marks₀ queue₀ tail at first count end₀ k₀ marks queue end k = Grown queue₀ tail marks queue end (Goes (entriesFrom (poolSearched slots payload (e .ts) (e .pool)) at first k)) × (length marks ≡ length marks₀) × (length queue ≡ length queue₀) × (k ≤ count)
 
 abbrev μ-loop : tie.MeasureT-loop
-μ-loop slots payload blocks ts pool words o h marks₀ queue₀ tail at first count end₀ k₀ marks queue end k = count - k
+μ-loop slots payload blocks e words o h marks₀ queue₀ tail at first count end₀ k₀ marks queue end k = count - k
 
 abbrev start : tie.At-loop Inv-loop μ-loop → tie.Start Inv-loop μ-loop
 start i = i .before .before .before .before .before .before .before .before .before
 
 -- the table's entries, by the numbers that were read
 whole : (i : tie.At-loop Inv-loop μ-loop) (k : ℕ) → k ≡ countOf (start i .args .h) → let a = start i .args in
-    entriesFrom (poolSearched (now (a .slots)) (now (a .payload)) (a .ts) (a .pool)) (i .before .before .here-of .result) (i .before .word-at .result) k
-    ≡ entriesFrom (poolSearched (now (a .slots)) (now (a .payload)) (a .ts) (a .pool)) (hereOf (a .o) (a .h)) (getD (now (a .words)) (a .o) 0) (countOf (a .h))
+    entriesFrom (poolSearched (now (a .slots)) (now (a .payload)) (a .e .ts) (a .e .pool)) (i .before .before .here-of .result) (i .before .word-at .result) k
+    ≡ entriesFrom (poolSearched (now (a .slots)) (now (a .payload)) (a .e .ts) (a .e .pool)) (hereOf (a .o) (a .h)) (getD (now (a .words)) (a .o) 0) (countOf (a .h))
 whole i k e = entries-read _ (i .before .before .here-of .ensures) (i .before .word-at .ensures) e
 
 here-of-requires : tie.Need-here-of-requires Inv-loop μ-loop

@@ -26,7 +26,7 @@ returns : tie.Need-returns
 returns c =
     let s = c .before .before .before .before .before .before .before .before .before .before .before .before .before .before in
     let a = s .args in
-    let el = poolSearched (now (a .slots)) (now (a .payload)) (a .ts) (a .pool) in
+    let el = poolSearched (now (a .slots)) (now (a .payload)) (a .e .ts) (a .e .pool) in
     let m = c .before .before .before .before .clear in
     let z = m .ensures ∙ ap (λ (n : ℕ). replicate n 0) (s .pre .0 .as-many) in
     answered el (now (a .heads)) (now (a .words)) (now (a .catches)) _ _ Closed (m .kept .0 ∙ s .pre .0 .as-many) (none-answered el (now (a .heads)) (now (a .words)) (now (a .catches)) _ _ z (sym (c .before .head-at .ensures) ∙ c .if1 .taken))
@@ -38,7 +38,7 @@ levels-requires c κs =
     let m = c .before .before .before .before .before .before .clear in (
       subst (λ (M : List ℕ). Held M (now (a .queue)) 0) (sym (m .ensures)) (held-none (length (now (a .marks))) (now (a .queue)) (omega (arith, s .pre .0 .as-many, s .pre .0 .room)) (omega (arith, s .pre .0 .as-many, s .pre .0 .small))),
       m .kept .0 ∙ s .pre .0 .as-many,
-      a-first (poolSearched (now (a .slots)) (now (a .payload)) (a .ts) (a .pool)) (now (a .heads)) (now (a .words)) (now (a .catches)) (λ z. c .before .before .if1 .left (c .before .before .before .head-at .ensures ∙ z)),
+      a-first (poolSearched (now (a .slots)) (now (a .payload)) (a .e .ts) (a .e .pool)) (now (a .heads)) (now (a .words)) (now (a .catches)) (λ z. c .before .before .if1 .left (c .before .before .before .head-at .ensures ∙ z)),
       s .pre .1,
     )
 
@@ -52,7 +52,7 @@ returns-2 : tie.Need-returns-2
 returns-2 c =
     let s = c .before .before .before .before .before .before .before .before .before .before .before .before .before .before .before .before .before .before .before .before .before in
     let a = s .args in
-    answered (poolSearched (now (a .slots)) (now (a .payload)) (a .ts) (a .pool)) (now (a .heads)) (now (a .words)) (now (a .catches)) _ _ (c .before .before .before .before .levels .result) (c .before .before .before .before .levels .kept .1 .1 .1 .1 .1 .1 .1 .1 .0 ∙ c .before .before .before .before .before .before .before .before .before .before .before .clear .kept .0 ∙ s .pre .0 .as-many) (c .before .before .before .before .levels .ensures)
+    answered (poolSearched (now (a .slots)) (now (a .payload)) (a .e .ts) (a .e .pool)) (now (a .heads)) (now (a .words)) (now (a .catches)) _ _ (c .before .before .before .before .levels .result) (c .before .before .before .before .levels .kept .1 .1 .1 .1 .1 .1 .1 .0 ∙ c .before .before .before .before .before .before .before .before .before .before .before .clear .kept .0 ∙ s .pre .0 .as-many) (c .before .before .before .before .levels .ensures)
 
 pub search-in-spec : {M : Type 1} → statement M
 search-in-spec =

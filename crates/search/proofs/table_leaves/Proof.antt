@@ -13,23 +13,23 @@ use Rattle.search.proofs.table_leaves.Statement.{statement}
 use Rattle.search.proofs.table_leaves.Tie as tie
 
 abbrev Inv-loop : tie.InvT-loop
-Inv-loop slots payload blocks ts pool heads words o h at first count k₀ k = (any (offHeads heads) (entriesFrom (poolSearched slots payload ts pool) at first k) ≡ false) × (k ≤ count)
+Inv-loop slots payload blocks e heads words o h at first count k₀ k = (any (offHeads heads) (entriesFrom (poolSearched slots payload (e .ts) (e .pool)) at first k) ≡ false) × (k ≤ count)
 
 abbrev μ-loop : tie.MeasureT-loop
-μ-loop slots payload blocks ts pool heads words o h at first count k₀ k = count - k
+μ-loop slots payload blocks e heads words o h at first count k₀ k = count - k
 
 abbrev start : tie.At-loop Inv-loop μ-loop → tie.Start Inv-loop μ-loop
 start i = i .before .before .before .before .before .before .before .before
 
 -- the table's entries, by the numbers that were read
 whole : (i : tie.At-loop Inv-loop μ-loop) (k : ℕ) → k ≡ countOf (start i .args .h) → let a = start i .args in
-    entriesFrom (poolSearched (now (a .slots)) (now (a .payload)) (a .ts) (a .pool)) (i .before .before .here-of .result) (i .before .word-at .result) k
-    ≡ entriesFrom (poolSearched (now (a .slots)) (now (a .payload)) (a .ts) (a .pool)) (hereOf (a .o) (a .h)) (getD (now (a .words)) (a .o) 0) (countOf (a .h))
+    entriesFrom (poolSearched (now (a .slots)) (now (a .payload)) (a .e .ts) (a .e .pool)) (i .before .before .here-of .result) (i .before .word-at .result) k
+    ≡ entriesFrom (poolSearched (now (a .slots)) (now (a .payload)) (a .e .ts) (a .e .pool)) (hereOf (a .o) (a .h)) (getD (now (a .words)) (a .o) 0) (countOf (a .h))
 whole i k e = entries-read _ (i .before .before .here-of .ensures) (i .before .word-at .ensures) e
 
 -- whether the entry that the loop stands at leaves
 leaves : (c : tie.After-off-target Inv-loop μ-loop) → let i = c .before .before .before in let a = start i .args in
-    any (offHeads (now (a .heads))) (entry (poolSearched (now (a .slots)) (now (a .payload)) (a .ts) (a .pool)) (i .before .before .here-of .result) (i .before .word-at .result + i .loop .k)) ≡ c .off-target .result
+    any (offHeads (now (a .heads))) (entry (poolSearched (now (a .slots)) (now (a .payload)) (a .e .ts) (a .e .pool)) (i .before .before .here-of .result) (i .before .word-at .result + i .loop .k)) ≡ c .off-target .result
 leaves c = let a = start (c .before .before .before) .args in ap (λ x. any (offHeads (now (a .heads))) (shown x)) (sym (c .before .entry-target .ensures)) ∙ sym (c .off-target .ensures)
 
 here-of-requires : tie.Need-here-of-requires Inv-loop μ-loop
