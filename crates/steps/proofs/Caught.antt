@@ -27,7 +27,6 @@ use Rattle.search.specs.mirror.Kept.{catchSteps}
 use Rattle.search.proofs.Laws.{catch-yes, catch-no}
 use Rattle.search.proofs.Kept.{Same, same-steps, same-low}
 use Rattle.steps.specs.Steps.{Source, toHandler, handlerSteps}
-use Rattle.steps.specs.mirror.Keeping.{decodedAt, Catches}
 
 -- ---- the opcode of what was decoded
 -- the opcode at the head
@@ -100,7 +99,3 @@ catch-same s heads catches small i o at is = go (s .opcodes .returns (i .opcode)
 pub no-handler : (s : Source) → s .handlers ≡ [] → (i : Instr) → handlerSteps s i ≡ []
 unfolding handlerAmong
 no-handler s e i = rw e (by-test (λ (l : List Step). l ≡ []) (s .opcodes .returns (i .opcode)) (λ _. refl) (λ _. refl))
-
-pub no-catches : (s : Source) → s .handlers ≡ [] → Catches s []
-unfolding handlerAmong catchWord
-no-catches s e o l d = rw e (by-test (λ (x : ℕ). 0 ≡ x) (s .opcodes .returns (decodedAt s o .instr .opcode)) (λ _. refl) (λ _. refl))

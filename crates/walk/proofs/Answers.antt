@@ -19,12 +19,12 @@ use Rattle.graph.proofs.Answers.{computed}
 use Rattle.search.specs.declared.Searched.{Searched}
 use Rattle.search.specs.mirror.Kept.{keptGraph, findingAs, IsFound}
 use Rattle.steps.specs.Steps.{Source, listing, walkGraph}
-use Rattle.steps.specs.mirror.Keeping.{Keeps, Catches}
+use Rattle.steps.specs.mirror.Keeping.{Catches}
 use Rattle.steps.proofs.Listed.{walk-good}
 use Rattle.steps.proofs.Keeps.{keeps-found}
 use Rattle.walk.specs.declared.Walked.{Walked}
 use Rattle.walk.specs.Walk.{answer, walkCheck, walkFound, walkSource, Promise}
-use Rattle.walk.specs.mirror.Search.{WalkedBy}
+use Rattle.walk.specs.mirror.Search.{Started, WalkedBy}
 use Rattle.walk.specs.declared.Walked.the-variants as walked
 
 -- a listing that no fault ended came to the code's end
@@ -44,7 +44,7 @@ module _ (s : Source) where
   abbrev whole : Check
   whole = listingCheck (s .opcodes) (s .pooled) (listing s)
 
-  pub no-fault : whole ≡ Ok → codeCheck (listing s .outcome) ≡ Ok
+  no-fault : whole ≡ Ok → codeCheck (listing s .outcome) ≡ Ok
   no-fault ok = or-left (codeCheck (listing s .outcome)) _ ok
 
   pub ended : whole ≡ Ok → listing s .outcome ≡ Outcome.End
@@ -61,11 +61,12 @@ module _ (s : Source) where
     source-refused r e = subst (Checked (walked.Refused r) M) e (refl, refl)
 
     -- marks Y were searched by themselves over the numbers that keep the code, and stand in front of the rest again
-    pub source-found : (catches : List ℕ) {heads words Y : List ℕ} {n : ℕ} (r : Searched) (w : Walked) → Ok ≡ walkCheck s (length M) → length (s .code) ≤ 65536 → n ≡ length (s .code) → length heads ≡ n
-        → Keeps s heads words → Catches s catches → IsFound (keptGraph (s .elem) heads words catches) n r Y → w ≡ answer (findingAs r) → WalkedBy (walkSource s M) w (Y ++ drop (length (s .code)) M)
+    pub source-found : (catches : List ℕ) {heads words Y : List ℕ} {n : ℕ} {kept : Check} (r : Searched) (w : Walked) → Ok ≡ walkCheck s (length M) → length (s .code) ≤ 65536 → n ≡ length (s .code) → length heads ≡ n
+        → Started s heads words kept → Catches s catches → IsFound (keptGraph (s .elem) heads words catches) n r Y → w ≡ answer (findingAs r) → WalkedBy (walkSource s M) w (Y ++ drop (length (s .code)) M)
     unfolding walkSource
     source-found catches {heads} {words} {Y} {n} r w ok few all as-many k c f is =
-        let x = keeps-found s heads words catches k c few (omega (arith, few, all, as-many)) (ended (or-left whole _ (sym ok))) n r Y f in
+        let fine = or-left whole _ (sym ok) in
+        let x = keeps-found s heads words catches (k .keeps (no-fault fine)) c few (omega (arith, few, all, as-many)) (ended fine) n r Y f in
         subst (Checked w (Y ++ drop (length (s .code)) M)) ok
         (is ∙ ap answer (x .0), ap (λ (y : List ℕ). y ++ drop (length (s .code)) M) (x .1 ∙ ap (markList (walkGraph s) (finding (walkGraph s))) all))
 

@@ -3,5 +3,5 @@ pub mod Rows
 pub mod Laws
 pub mod Keeping
 pub mod Answers
-pub mod Late
+pub mod Checks
 pub mod Searched

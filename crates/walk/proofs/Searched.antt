@@ -40,7 +40,7 @@ use Rattle.walk.specs.declared.Walked.{Walked}
 use Rattle.walk.specs.Walk.{walkSource, heldCheck, Given, objectWith, walkWith, lentWith, walkLentWith}
 use Rattle.flow.specs.Opcodes.{opcodesOf}
 use Rattle.steps.specs.Steps.{Source}
-use Rattle.walk.specs.mirror.Search.{sourceOf, caughtBy, sourceBy, headerFound, WalkedBy, walkSearched}
+use Rattle.walk.specs.mirror.Search.{sourceOf, sourceBy, headerFound, WalkedBy, walkSearched}
 use Rattle.serializer.specs.declared.RawAt.the-variants as raw-at
 use Rattle.header.specs.declared.HeaderAnswer.the-variants as header-answer
 use Rattle.walk.specs.declared.Walked.the-variants as walked
@@ -106,14 +106,14 @@ module _ (f : Files) (g : Given) (o : Object) (code : List ℕ) (l : Layout) (h 
       rw (at, none) (refl, refl)
 
   pub object-walked : (eqb (h .length) 0 || ltb 0 (h .«code_len»)) ≡ true → (M : List ℕ) (u : Function) (p : Pool) (params : ℤ) → u ≡ functionOf (f .opcodes) l p params → p ≡ poolFound (f .objects) (f .slots) l o
-      → walkSource (caughtBy (sourceOf code (f .opcodes) (f .types) (f .slots) (f .payload) u) (g .handlers)) M ≡ walkSearched f g o M
+      → walkSource (sourceOf code (f .opcodes) (f .types) (f .slots) (f .payload) (g .handlers) u) M ≡ walkSearched f g o M
   unfolding walkSearched
   object-walked held M u p params e e2 =
       let at : headerFound f o ≡ header-answer.At h = ap (λ (x : Layout). headerSearched (f .slots) (f .payload) o x) (sym e1) ∙ e3 in
       let q = poolFound (f .objects) (f .slots) (layoutOf (f .layout)) o in
       let pool : p ≡ q = e2 ∙ ap (λ (x : Layout). poolFound (f .objects) (f .slots) x o) e1 in
       let source : List ℕ → Layout → Pool → Source = λ c x y. sourceBy c (f .opcodes) (f .types) (f .slots) (f .payload) g x y in
-      ap (λ (x : Function). walkSource (caughtBy (sourceOf code (f .opcodes) (f .types) (f .slots) (f .payload) x) (g .handlers)) M) e
+      ap (λ (x : Function). walkSource (sourceOf code (f .opcodes) (f .types) (f .slots) (f .payload) (g .handlers) x) M) e
       ∙ ap (λ (c : List ℕ). walkSource (source c l p) M) e4
       ∙ ap (λ (x : Layout). walkSource (source (codeOf f (header-answer.At h)) x p) M) e1
       ∙ ap (λ (x : Pool). walkSource (source (codeOf f (header-answer.At h)) (layoutOf (f .layout)) x) M) pool
@@ -129,13 +129,13 @@ module _ (f : Files) (g : Given) (w : PoolObject) (code : List ℕ) where
 
   -- what is found once of it is u
   pub lent-walked : (M : List ℕ) → checkLent f w code ≡ Ok → (u : Function) (l : Layout) (p : Pool) {params : ℤ} → u ≡ functionOf (f .opcodes) l p params → l ≡ layoutOf (f .layout)
-      → p ≡ lentFound (f .objects) (f .slots) l w → walkSource (caughtBy (sourceOf code (f .opcodes) (f .types) (f .slots) (f .payload) u) (g .handlers)) M ≡ walkLentWith f g w code M
+      → p ≡ lentFound (f .objects) (f .slots) l w → walkSource (sourceOf code (f .opcodes) (f .types) (f .slots) (f .payload) (g .handlers) u) M ≡ walkLentWith f g w code M
   unfolding walkLentWith
   lent-walked M ok u l p e e1 e2 =
       let at = layoutOf (f .layout) in
       let pool = e2 ∙ ap (λ (x : Layout). lentFound (f .objects) (f .slots) x w) e1 in
       let source : Bool → (ℕ → Elem) → Source = λ x el. record { code = code; opcodes = opcodesOf (f .opcodes); types = f .types; rfs = at .frame .«reg_file_start»; pooled = x; elem = el; handlers = g .handlers } in
-      ap (λ (x : Function). walkSource (caughtBy (sourceOf code (f .opcodes) (f .types) (f .slots) (f .payload) x) (g .handlers)) M) e
+      ap (λ (x : Function). walkSource (sourceOf code (f .opcodes) (f .types) (f .slots) (f .payload) (g .handlers) x) M) e
       ∙ ap (λ (x : Layout). walkSource (sourceBy code (f .opcodes) (f .types) (f .slots) (f .payload) g x p) M) e1
       ∙ ap (λ (x : Pool). walkSource (source (found x) (poolSearched (f .slots) (f .payload) (at .«tagged_size») p)) M) (lent-pool f w code ok pool)
       ∙ ap (λ (x : ℕ → Elem). walkSource (source (found (lentPool f w)) x) M) (lent-elems f w code ok pool)

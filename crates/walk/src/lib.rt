@@ -9,6 +9,7 @@ use header::Header;
 use header::HeaderAnswer;
 use refusal::Check;
 use refusal::Refusal;
+use search::Elements;
 use search::Searched;
 use steps::Kept;
 use store::Object;
@@ -21,17 +22,16 @@ ghost use mathlib.Core.List.{[]};
 ghost use Rattle.refusal.specs.declared.Check.the-variants.{Ok};
 ghost use Rattle.refusal.specs.Check.{refused, firstRefusal, refuseUnless};
 ghost use Rattle.decoder.specs.Decode.{decodeAt};
+ghost use Rattle.flow.specs.Flow.{Numbered};
 ghost use Rattle.flow.specs.Opcodes.{opcodesOf};
-ghost use Rattle.tables.specs.Records.{prefixOp};
 ghost use Rattle.targets.specs.Targets.{found};
 ghost use Rattle.targets.specs.mirror.Search.{poolSearched, PoolBlocked};
-ghost use Rattle.handlers.specs.Handlers.{checkHandlers};
 ghost use Rattle.search.specs.mirror.Kept.{findingAs};
 ghost use Rattle.steps.specs.mirror.Keeping.{keptOf};
 ghost use Rattle.function.specs.Files.{Files, filesOf, lentFiles};
 ghost use Rattle.walk.specs.Walk.{answer, walkSource, WalkedAs, Promise, Given, givenOf, objectSource, objectWith, walkCall, walkWith};
 ghost use Rattle.walk.specs.Walk.{lentSource, lentWith, walkLent, walkLentWith};
-ghost use Rattle.walk.specs.mirror.Search.{sourceOf, caughtBy, Tabled, Clear, Started, WalkedBy, WalkedLate, walkSearched};
+ghost use Rattle.walk.specs.mirror.Search.{sourceOf, Prefixed, Clear, Started, WalkedBy, walkSearched};
 
 // The answer to a walk check: closed, or the steps of the shortest walk that leaves and the offset it leaves from, or a refusal.
 pub enum Walked {
@@ -221,8 +221,8 @@ fn walk_object(
             }
             let pool = function::pool_of(objects, slots, shape, object);
             let f = function::function_of(opcodes, shape, pool, h.parameter_count);
-            let code = serializer::lent(payload, h.code_at, h.code_len);
-            walk_source(marks, code, opcodes, types, slots, payload, handlers, f)
+            let held = serializer::lent(payload, h.code_at, h.code_len);
+            walk_source(marks, held, opcodes, types, slots, payload, handlers, f)
         }
     }
 }
@@ -237,7 +237,8 @@ fn is_held(h: Header) -> bool
     0 < h.code_len
 }
 
-// The walks of a code of at most 65,536 bytes, once its files are good. A table of what the handlers catch is made where there are good records.
+// The walks of a code of at most 65,536 bytes, once its files are good. Room by the code's length: most code is short, and the room is cleared in
+// each call. A head and two words for each byte, and two bytes an offset queued.
 fn walk_source(
     marks: &mut [u8],
     code: &[u8],
@@ -248,229 +249,18 @@ fn walk_source(
     handlers: &[u8],
     f: Function,
 ) -> Walked
-    requires { ⌜ (length (now code) ≤ 65536) × (f .wide ≡ prefixOp (now opcodes) 1) × (f .extra ≡ prefixOp (now opcodes) 2) ⌝ }
-    ensures { λ r. ⌜ WalkedBy (walkSource (caughtBy
-        (sourceOf (now (code .entry)) (now (opcodes .entry)) (now (types .entry)) (now (slots .entry)) (now (payload .entry)) f)
-        (now (handlers .entry))) (now (marks .entry))) r (now (marks .exit)) ⌝ }
-{
-    let late = handlers::check_handlers(handlers, code.len());
-    if handlers.len() == 0 {
-        return walk_bare(marks, code, opcodes, types, slots, payload, late, f);
-    }
-    match late {
-        Check::Refused(_) => walk_bare(marks, code, opcodes, types, slots, payload, late, f),
-        Check::Ok => walk_caught(marks, code, opcodes, types, slots, payload, handlers, f),
-    }
-}
-
-// Without such a table: there are no records, or they are refused.
-fn walk_bare(
-    marks: &mut [u8],
-    code: &[u8],
-    opcodes: &[u8],
-    types: &[u8],
-    slots: &[u8],
-    payload: &[u8],
-    late: Check,
-    f: Function,
-) -> Walked
-    requires { ⌜ (length (now code) ≤ 65536) × (f .wide ≡ prefixOp (now opcodes) 1) × (f .extra ≡ prefixOp (now opcodes) 2) ⌝ }
-    ensures { λ r. ⌜ WalkedLate
-        (sourceOf (now (code .entry)) (now (opcodes .entry)) (now (types .entry)) (now (slots .entry)) (now (payload .entry)) f)
-        [] late (now (marks .entry)) r (now (marks .exit)) ⌝ }
-{
-    let none = [0u32; 1];
-    let flows = flow::flow_numbers(opcodes);
-    walk_sized(
-        marks,
-        code,
-        opcodes,
-        types,
-        slots,
-        payload,
-        &flows,
-        &none[..0],
-        late,
-        f,
-    )
-}
-
-// With one, in room by the code's length.
-fn walk_caught(
-    marks: &mut [u8],
-    code: &[u8],
-    opcodes: &[u8],
-    types: &[u8],
-    slots: &[u8],
-    payload: &[u8],
-    handlers: &[u8],
-    f: Function,
-) -> Walked
-    requires { ⌜ (length (now code) ≤ 65536) × (f .wide ≡ prefixOp (now opcodes) 1) × (f .extra ≡ prefixOp (now opcodes) 2)
-        × (Ok ≡ checkHandlers (now handlers) (length (now code))) ⌝ }
-    ensures { λ r. ⌜ WalkedBy (walkSource (caughtBy
-        (sourceOf (now (code .entry)) (now (opcodes .entry)) (now (types .entry)) (now (slots .entry)) (now (payload .entry)) f)
-        (now (handlers .entry))) (now (marks .entry))) r (now (marks .exit)) ⌝ }
+    requires { ⌜ (length (now code) ≤ 65536) × Prefixed (now opcodes) f ⌝ }
+    ensures { λ r. ⌜ WalkedBy (walkSource
+        (sourceOf (now (code .entry)) (now (opcodes .entry)) (now (types .entry)) (now (slots .entry)) (now (payload .entry))
+        (now (handlers .entry)) f) (now (marks .entry))) r (now (marks .exit)) ⌝ }
 {
     if code.len() <= 1024 {
-        return caught_short(marks, code, opcodes, types, slots, payload, handlers, f);
-    }
-    caught_long(marks, code, opcodes, types, slots, payload, handlers, f)
-}
-
-fn caught_short(
-    marks: &mut [u8],
-    code: &[u8],
-    opcodes: &[u8],
-    types: &[u8],
-    slots: &[u8],
-    payload: &[u8],
-    handlers: &[u8],
-    f: Function,
-) -> Walked
-    requires { ⌜ (length (now code) ≤ 1024) × (f .wide ≡ prefixOp (now opcodes) 1) × (f .extra ≡ prefixOp (now opcodes) 2)
-        × (Ok ≡ checkHandlers (now handlers) (length (now code))) ⌝ }
-    ensures { λ r. ⌜ WalkedBy (walkSource (caughtBy
-        (sourceOf (now (code .entry)) (now (opcodes .entry)) (now (types .entry)) (now (slots .entry)) (now (payload .entry)) f)
-        (now (handlers .entry))) (now (marks .entry))) r (now (marks .exit)) ⌝ }
-{
-    let mut room = [0u32; 1024];
-    walk_catching(
-        marks,
-        code,
-        opcodes,
-        types,
-        slots,
-        payload,
-        handlers,
-        f,
-        &mut room,
-    )
-}
-
-fn caught_long(
-    marks: &mut [u8],
-    code: &[u8],
-    opcodes: &[u8],
-    types: &[u8],
-    slots: &[u8],
-    payload: &[u8],
-    handlers: &[u8],
-    f: Function,
-) -> Walked
-    requires { ⌜ (length (now code) ≤ 65536) × (f .wide ≡ prefixOp (now opcodes) 1) × (f .extra ≡ prefixOp (now opcodes) 2)
-        × (Ok ≡ checkHandlers (now handlers) (length (now code))) ⌝ }
-    ensures { λ r. ⌜ WalkedBy (walkSource (caughtBy
-        (sourceOf (now (code .entry)) (now (opcodes .entry)) (now (types .entry)) (now (slots .entry)) (now (payload .entry)) f)
-        (now (handlers .entry))) (now (marks .entry))) r (now (marks .exit)) ⌝ }
-{
-    let mut room = [0u32; 65536];
-    walk_catching(
-        marks,
-        code,
-        opcodes,
-        types,
-        slots,
-        payload,
-        handlers,
-        f,
-        &mut room,
-    )
-}
-
-fn walk_catching(
-    marks: &mut [u8],
-    code: &[u8],
-    opcodes: &[u8],
-    types: &[u8],
-    slots: &[u8],
-    payload: &[u8],
-    handlers: &[u8],
-    f: Function,
-    room: &mut [u32],
-) -> Walked
-    requires { ⌜ (length (now code) ≤ 65536) × (f .wide ≡ prefixOp (now opcodes) 1) × (f .extra ≡ prefixOp (now opcodes) 2)
-        × (Ok ≡ checkHandlers (now handlers) (length (now code))) × (length (now code) ≤ length (now room)) × Clear (now room) ⌝ }
-    ensures { λ r. ⌜ WalkedBy (walkSource (caughtBy
-        (sourceOf (now (code .entry)) (now (opcodes .entry)) (now (types .entry)) (now (slots .entry)) (now (payload .entry)) f)
-        (now (handlers .entry))) (now (marks .entry))) r (now (marks .exit)) ⌝ }
-{
-    let n = code.len();
-    let catches = &mut room[..n];
-    handlers::catch_table(code, opcodes, handlers, f.wide, f.extra, catches);
-    let flows = flow::flow_numbers(opcodes);
-    walk_sized(
-        marks,
-        code,
-        opcodes,
-        types,
-        slots,
-        payload,
-        &flows,
-        catches,
-        Check::Ok,
-        f,
-    )
-}
-
-// Room by the code's length: most code is short, and the room is cleared in each call. A head and a word for each byte, and two bytes an offset queued.
-fn walk_sized(
-    marks: &mut [u8],
-    code: &[u8],
-    opcodes: &[u8],
-    types: &[u8],
-    slots: &[u8],
-    payload: &[u8],
-    flows: &[u8],
-    catches: &[u32],
-    late: Check,
-    f: Function,
-) -> Walked
-    requires { ⌜ (length (now code) ≤ 65536) × Tabled (now opcodes) (now flows) f ⌝ }
-    ensures { λ r. ⌜ WalkedLate
-        (sourceOf (now (code .entry)) (now (opcodes .entry)) (now (types .entry)) (now (slots .entry)) (now (payload .entry)) f)
-        (now (catches .entry)) late (now (marks .entry)) r (now (marks .exit)) ⌝ }
-{
-    if code.len() <= 1024 {
-        return walk_short(
-            marks,
-            code,
-            opcodes,
-            types,
-            slots,
-            payload,
-            flows,
-            catches,
-            late,
-            f,
-        );
+        return walk_short(marks, code, opcodes, types, slots, payload, handlers, f);
     }
     if code.len() <= 8192 {
-        return walk_middle(
-            marks,
-            code,
-            opcodes,
-            types,
-            slots,
-            payload,
-            flows,
-            catches,
-            late,
-            f,
-        );
+        return walk_middle(marks, code, opcodes, types, slots, payload, handlers, f);
     }
-    walk_long(
-        marks,
-        code,
-        opcodes,
-        types,
-        slots,
-        payload,
-        flows,
-        catches,
-        late,
-        f,
-    )
+    walk_long(marks, code, opcodes, types, slots, payload, handlers, f)
 }
 
 fn walk_short(
@@ -480,18 +270,17 @@ fn walk_short(
     types: &[u8],
     slots: &[u8],
     payload: &[u8],
-    flows: &[u8],
-    catches: &[u32],
-    late: Check,
+    handlers: &[u8],
     f: Function,
 ) -> Walked
-    requires { ⌜ (length (now code) ≤ 1024) × Tabled (now opcodes) (now flows) f ⌝ }
-    ensures { λ r. ⌜ WalkedLate
-        (sourceOf (now (code .entry)) (now (opcodes .entry)) (now (types .entry)) (now (slots .entry)) (now (payload .entry)) f)
-        (now (catches .entry)) late (now (marks .entry)) r (now (marks .exit)) ⌝ }
+    requires { ⌜ (length (now code) ≤ 1024) × Prefixed (now opcodes) f ⌝ }
+    ensures { λ r. ⌜ WalkedBy (walkSource
+        (sourceOf (now (code .entry)) (now (opcodes .entry)) (now (types .entry)) (now (slots .entry)) (now (payload .entry))
+        (now (handlers .entry)) f) (now (marks .entry))) r (now (marks .exit)) ⌝ }
 {
     let mut heads = [0u32; 1024];
     let mut words = [0u32; 1024];
+    let mut catches = [0u32; 1024];
     let mut queue = [0u16; 1024];
     walk_in(
         marks,
@@ -500,12 +289,11 @@ fn walk_short(
         types,
         slots,
         payload,
-        flows,
-        catches,
-        late,
+        handlers,
         f,
         &mut heads,
         &mut words,
+        &mut catches,
         &mut queue,
     )
 }
@@ -517,18 +305,17 @@ fn walk_middle(
     types: &[u8],
     slots: &[u8],
     payload: &[u8],
-    flows: &[u8],
-    catches: &[u32],
-    late: Check,
+    handlers: &[u8],
     f: Function,
 ) -> Walked
-    requires { ⌜ (length (now code) ≤ 8192) × Tabled (now opcodes) (now flows) f ⌝ }
-    ensures { λ r. ⌜ WalkedLate
-        (sourceOf (now (code .entry)) (now (opcodes .entry)) (now (types .entry)) (now (slots .entry)) (now (payload .entry)) f)
-        (now (catches .entry)) late (now (marks .entry)) r (now (marks .exit)) ⌝ }
+    requires { ⌜ (length (now code) ≤ 8192) × Prefixed (now opcodes) f ⌝ }
+    ensures { λ r. ⌜ WalkedBy (walkSource
+        (sourceOf (now (code .entry)) (now (opcodes .entry)) (now (types .entry)) (now (slots .entry)) (now (payload .entry))
+        (now (handlers .entry)) f) (now (marks .entry))) r (now (marks .exit)) ⌝ }
 {
     let mut heads = [0u32; 8192];
     let mut words = [0u32; 8192];
+    let mut catches = [0u32; 8192];
     let mut queue = [0u16; 8192];
     walk_in(
         marks,
@@ -537,12 +324,11 @@ fn walk_middle(
         types,
         slots,
         payload,
-        flows,
-        catches,
-        late,
+        handlers,
         f,
         &mut heads,
         &mut words,
+        &mut catches,
         &mut queue,
     )
 }
@@ -554,18 +340,17 @@ fn walk_long(
     types: &[u8],
     slots: &[u8],
     payload: &[u8],
-    flows: &[u8],
-    catches: &[u32],
-    late: Check,
+    handlers: &[u8],
     f: Function,
 ) -> Walked
-    requires { ⌜ (length (now code) ≤ 65536) × Tabled (now opcodes) (now flows) f ⌝ }
-    ensures { λ r. ⌜ WalkedLate
-        (sourceOf (now (code .entry)) (now (opcodes .entry)) (now (types .entry)) (now (slots .entry)) (now (payload .entry)) f)
-        (now (catches .entry)) late (now (marks .entry)) r (now (marks .exit)) ⌝ }
+    requires { ⌜ (length (now code) ≤ 65536) × Prefixed (now opcodes) f ⌝ }
+    ensures { λ r. ⌜ WalkedBy (walkSource
+        (sourceOf (now (code .entry)) (now (opcodes .entry)) (now (types .entry)) (now (slots .entry)) (now (payload .entry))
+        (now (handlers .entry)) f) (now (marks .entry))) r (now (marks .exit)) ⌝ }
 {
     let mut heads = [0u32; 65536];
     let mut words = [0u32; 65536];
+    let mut catches = [0u32; 65536];
     let mut queue = [0u16; 65536];
     walk_in(
         marks,
@@ -574,18 +359,16 @@ fn walk_long(
         types,
         slots,
         payload,
-        flows,
-        catches,
-        late,
+        handlers,
         f,
         &mut heads,
         &mut words,
+        &mut catches,
         &mut queue,
     )
 }
 
-// The walks of a code, in room for it where no head stands yet: 11 to 16, 18, then what is late, and the search. Of empty code the search finds
-// nothing that leaves.
+// The walks of a code, in room of zeros for it: 11 to 16, 18, 24 and 25, then the search. Of empty code it finds nothing that leaves.
 fn walk_in(
     marks: &mut [u8],
     code: &[u8],
@@ -593,41 +376,35 @@ fn walk_in(
     types: &[u8],
     slots: &[u8],
     payload: &[u8],
-    flows: &[u8],
-    catches: &[u32],
-    late: Check,
+    handlers: &[u8],
     f: Function,
     heads: &mut [u32],
     words: &mut [u32],
+    catches: &mut [u32],
     queue: &mut [u16],
 ) -> Walked
     requires { ⌜ (length (now code) ≤ 65536) × (length (now code) ≤ length (now heads)) × (length (now code) ≤ length (now words))
-        × (length (now code) ≤ length (now queue)) × Clear (now heads) × Tabled (now opcodes) (now flows) f ⌝ }
-    ensures { λ r. ⌜ WalkedLate
-        (sourceOf (now (code .entry)) (now (opcodes .entry)) (now (types .entry)) (now (slots .entry)) (now (payload .entry)) f)
-        (now (catches .entry)) late (now (marks .entry)) r (now (marks .exit)) ⌝ }
+        × (length (now code) ≤ length (now catches)) × (length (now code) ≤ length (now queue))
+        × Clear (now heads) × Clear (now catches) × Prefixed (now opcodes) f ⌝ }
+    ensures { λ r. ⌜ WalkedBy (walkSource
+        (sourceOf (now (code .entry)) (now (opcodes .entry)) (now (types .entry)) (now (slots .entry)) (now (payload .entry))
+        (now (handlers .entry)) f) (now (marks .entry))) r (now (marks .exit)) ⌝ }
 {
     let n = code.len();
     let pool = f.pool;
     let h = &mut heads[..n];
     let w = &mut words[..n];
-    let kept = keep_code(code, opcodes, types, slots, payload, flows, f, h, w);
+    let c = &mut catches[..n];
+    let kept = keep_code(code, opcodes, types, slots, payload, f, h, w);
     let room = marks.len();
+    let late = handlers::check_handlers(handlers, n);
     let check = refusal::first_refusal(kept, room_check(n, room, late));
     match check {
         Check::Refused(refusal) => Walked::Refused(refusal),
         Check::Ok => {
-            let found = search::search(
-                slots,
-                payload,
-                f.ts,
-                pool,
-                h,
-                w,
-                catches,
-                &mut marks[..n],
-                queue,
-            );
+            handlers::catch_table(code, opcodes, handlers, f.wide, f.extra, c);
+            let e = Elements { ts: f.ts, pool };
+            let found = search::search(slots, payload, e, h, w, c, &mut marks[..n], queue);
             answer_of(found)
         }
     }
@@ -657,19 +434,19 @@ fn keep_code(
     types: &[u8],
     slots: &[u8],
     payload: &[u8],
-    flows: &[u8],
     f: Function,
     heads: &mut [u32],
     words: &mut [u32],
 ) -> Check
-    requires { ⌜ Tabled (now opcodes) (now flows) f × (length (now code) ≤ 65536) × (length (now heads) ≡ length (now code))
+    requires { ⌜ Prefixed (now opcodes) f × (length (now code) ≤ 65536) × (length (now heads) ≡ length (now code))
         × (length (now words) ≡ length (now code)) × Clear (now heads) ⌝ }
     ensures { λ r. ⌜ Started
-        (sourceOf (now (code .entry)) (now (opcodes .entry)) (now (types .entry)) (now (slots .entry)) (now (payload .entry)) f)
+        (sourceOf (now (code .entry)) (now (opcodes .entry)) (now (types .entry)) (now (slots .entry)) (now (payload .entry)) [] f)
         (now (heads .exit)) (now (words .exit)) r ⌝ }
 {
     let pool = f.pool;
     let blocks = targets::pool_blocks(slots, f.ts, pool);
+    let flows = flow::flow_numbers(opcodes);
     keep_all(
         code,
         opcodes,
@@ -677,14 +454,14 @@ fn keep_code(
         slots,
         payload,
         &blocks,
-        flows,
+        &flows,
         f,
         heads,
         words,
     )
 }
 
-// The same with a summary of the pool's slots.
+// The same with a summary of the pool's slots, and the opcodes' flows.
 fn keep_all(
     code: &[u8],
     opcodes: &[u8],
@@ -697,11 +474,11 @@ fn keep_all(
     heads: &mut [u32],
     words: &mut [u32],
 ) -> Check
-    requires { ⌜ Tabled (now opcodes) (now flows) f × (length (now code) ≤ 65536) × (length (now heads) ≡ length (now code))
+    requires { ⌜ Prefixed (now opcodes) f × (length (now code) ≤ 65536) × (length (now heads) ≡ length (now code))
         × (length (now words) ≡ length (now code)) × Clear (now heads)
-        × PoolBlocked (now slots) (f .ts) (f .pool) (now blocks) ⌝ }
+        × PoolBlocked (now slots) (f .ts) (f .pool) (now blocks) × Numbered (now opcodes) (now flows) 256 ⌝ }
     ensures { λ r. ⌜ Started
-        (sourceOf (now (code .entry)) (now (opcodes .entry)) (now (types .entry)) (now (slots .entry)) (now (payload .entry)) f)
+        (sourceOf (now (code .entry)) (now (opcodes .entry)) (now (types .entry)) (now (slots .entry)) (now (payload .entry)) [] f)
         (now (heads .exit)) (now (words .exit)) r ⌝ }
 {
     let mut check = Check::Ok;
@@ -753,8 +530,8 @@ fn keep_at(
 ) -> Kept
     requires { ⌜ PoolBlocked (now slots) (f .ts) (f .pool) (now blocks) ⌝ }
     ensures { λ r. ⌜ r ≡ keptOf (poolSearched (now (slots .entry)) (now (payload .entry)) (f .ts) (f .pool)) (found (f .pool)) flow
-        (decodeAt (now (code .entry)) (opcodesOf (now (opcodes .entry))) (now (types .entry)) i (f .frame .«reg_file_start») (f .wide) (f .extra) .instr)
-        size ⌝ }
+        (decodeAt (now (code .entry)) (opcodesOf (now (opcodes .entry))) (now (types .entry)) i
+        (f .frame .«reg_file_start») (f .wide) (f .extra) .instr) size ⌝ }
 {
     let kind = flow.kind;
     match kind {
@@ -789,8 +566,8 @@ fn keep_jump(
 ) -> Kept
     requires { ⌜ PoolBlocked (now slots) (f .ts) (f .pool) (now blocks) ⌝ }
     ensures { λ r. ⌜ r ≡ keptOf (poolSearched (now (slots .entry)) (now (payload .entry)) (f .ts) (f .pool)) (found (f .pool)) flow
-        (decodeAt (now (code .entry)) (opcodesOf (now (opcodes .entry))) (now (types .entry)) i (f .frame .«reg_file_start») (f .wide) (f .extra) .instr)
-        size ⌝ }
+        (decodeAt (now (code .entry)) (opcodesOf (now (opcodes .entry))) (now (types .entry)) i
+        (f .frame .«reg_file_start») (f .wide) (f .extra) .instr) size ⌝ }
 {
     let pool = f.pool;
     let frame = f.frame;

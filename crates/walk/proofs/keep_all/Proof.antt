@@ -1,5 +1,6 @@
 use Prim.Native.Nat.{_-_}
 use mathlib.Core.Path.{_≡_, sym, ap, _∙_}
+use mathlib.Core.List.{[]}
 use native.Mathlib.Omega.{arith}
 use borrow.Author.Needs.{needs}
 use denote.Ref.{now}
@@ -22,7 +23,7 @@ use Rattle.walk.proofs.keep_all.Statement.{statement}
 use Rattle.walk.proofs.keep_all.Tie as tie
 
 abbrev Inv-loop : tie.InvT-loop
-Inv-loop code opcodes types slots payload blocks flows f heads₀ words₀ check₀ i₀ heads words check i = Keeping (sourceOf code opcodes types slots payload f) heads words check i
+Inv-loop code opcodes types slots payload blocks flows f heads₀ words₀ check₀ i₀ heads words check i = Keeping (sourceOf code opcodes types slots payload [] f) heads words check i
 
 abbrev μ-loop : tie.MeasureT-loop
 μ-loop code opcodes types slots payload blocks flows f heads₀ words₀ check₀ i₀ heads words check i = length code - i
@@ -32,7 +33,7 @@ abbrev start : tie.At-loop Inv-loop μ-loop → tie.Start Inv-loop μ-loop
 start i = i .before .before .before .before .before .before .before .before .before .before
 
 abbrev source : tie.At-loop Inv-loop μ-loop → Source
-source i = let a = start i .args in sourceOf (now (a .code)) (now (a .opcodes)) (now (a .types)) (now (a .slots)) (now (a .payload)) (a .f)
+source i = let a = start i .args in sourceOf (now (a .code)) (now (a .opcodes)) (now (a .types)) (now (a .slots)) (now (a .payload)) [] (a .f)
 
 -- what is decoded with the prefix opcodes found once
 decoded : (i : tie.At-loop Inv-loop μ-loop) → let a = start i .args in
@@ -57,7 +58,7 @@ kept c =
     let a = start i .args in
     let x = decodeAt (now (a .code)) (opcodesOf (now (a .opcodes))) (now (a .types)) (i .loop .i) (a .f .frame .«reg_file_start») (a .f .wide) (a .f .extra) .instr in
     let e = c .before .before .before .before .extent-at .ensures (a .f .frame .«reg_file_start») in
-    let g = c .before .flow-in .ensures (now (a .opcodes)) (start i .pre .0 .numbers) in
+    let g = c .before .flow-in .ensures (now (a .opcodes)) (start i .pre .6) in
     kept-is (source i) (i .loop .i) x (c .keep-at .result) (ap (λ (y : Decoded). y .instr) (decoded i)) (g ∙ ap (λ (y : Extent). flowOf (now (a .opcodes)) (y .opcode)) e) (ap (λ (y : Extent). y .end - i .loop .i) e) (c .keep-at .ensures)
 
 loop-holds : tie.Need-loop-holds Inv-loop μ-loop

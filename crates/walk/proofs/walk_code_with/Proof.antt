@@ -33,7 +33,7 @@ walk-source-requires c κs =
     let a = c .before .before .before .before .before .before .before .before .before .before .before .before .before .before .before .before .args in
     let s = lentFiles (now (a .opcodes)) (now (a .types)) (now (a .layout)) (now (a .objects)) (now (a .slots)) (now (a .payload)) in
     let e = c .before .function-of .ensures in
-    (lent-short s (givenOf (now (a .handlers))) (a .object) (now (a .code)) (sym (c .before .before .before .before .before .before .check-lent .ensures) ∙ c .before .before .before .before .enum-told .given .1), ap (λ (x : Function). x .wide) e, ap (λ (x : Function). x .extra) e)
+    (lent-short s (givenOf (now (a .handlers))) (a .object) (now (a .code)) (sym (c .before .before .before .before .before .before .check-lent .ensures) ∙ c .before .before .before .before .enum-told .given .1), record { wide = ap (λ (x : Function). x .wide) e; extra = ap (λ (x : Function). x .extra) e })
 
 returns : tie.Need-returns
 unfolding walkLentWith

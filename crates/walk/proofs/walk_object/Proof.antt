@@ -47,7 +47,7 @@ walk-source-requires : tie.Need-walk-source-requires
 walk-source-requires c κs =
     let s = c .before .before .before .before .before .before .before .before .before .before .before .before .before .before .before .before .before .before .before .before .before .before in
     let e = c .before .before .function-of .ensures in
-    (object-short (files s) (givenOf (now (s .args .handlers))) (s .args .object) _ _ (c .before .before .before .before .before .before .before .before .h .given .0 .0) (c .before .before .before .before .before .before .before .before .before .before .before .layout-of .ensures) (sym (c .before .before .before .before .before .before .before .before .before .before .header-at-unchecked .ensures) ∙ c .before .before .before .before .before .before .before .before .h .given .1) (c .before .lent .ensures), ap (λ (x : Function). x .wide) e, ap (λ (x : Function). x .extra) e)
+    (object-short (files s) (givenOf (now (s .args .handlers))) (s .args .object) _ _ (c .before .before .before .before .before .before .before .before .h .given .0 .0) (c .before .before .before .before .before .before .before .before .before .before .before .layout-of .ensures) (sym (c .before .before .before .before .before .before .before .before .before .before .header-at-unchecked .ensures) ∙ c .before .before .before .before .before .before .before .before .h .given .1) (c .before .lent .ensures), record { wide = ap (λ (x : Function). x .wide) e; extra = ap (λ (x : Function). x .extra) e })
 
 -- the code that the header tells of
 abbrev told : tie.After-is-held → List ℕ

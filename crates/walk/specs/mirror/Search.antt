@@ -1,9 +1,9 @@
--- What the functions promise one another, and the calls by the searches that the code makes: `searched` of proofs/Answers.antt and
--- `walked-searched` of proofs/Searched.antt say that they are those of ../Walk.antt.
+-- What the functions promise one another, and the calls by the searches that the code makes: `walked-searched` and `lent-walked` of
+-- proofs/Searched.antt say that they are those of ../Walk.antt.
 use Prim.Native.Nat.{ℕ}
 use mathlib.Core.Path.{_≡_}
-use mathlib.Core.List.{List, []}
-use lib.ListN.{getD, length}
+use mathlib.Core.List.{List}
+use lib.ListN.{getD}
 use Rattle.refusal.specs.declared.Check.{Check}
 use Rattle.refusal.specs.declared.Check.the-variants.{Ok}
 use Rattle.refusal.specs.Check.{firstRefusal, guardedOn}
@@ -14,7 +14,6 @@ use Rattle.layout.specs.Layout.{layoutOf}
 use Rattle.header.specs.declared.HeaderAnswer.{HeaderAnswer}
 use Rattle.header.specs.mirror.Header.{headerSearched}
 use Rattle.targets.specs.declared.Pool.{Pool}
-use Rattle.flow.specs.Flow.{Numbered}
 use Rattle.flow.specs.Opcodes.{opcodesOf}
 use Rattle.targets.specs.Targets.{found}
 use Rattle.targets.specs.mirror.Search.{poolSearched}
@@ -22,34 +21,23 @@ use Rattle.function.specs.declared.Function.{Function}
 use Rattle.function.specs.Files.{Files}
 use Rattle.function.specs.Code.{codeOf, headerCheck, codeCheck, listingCheck}
 use Rattle.function.specs.mirror.Pool.{poolFound}
-use Rattle.handlers.specs.Handlers.{checkHandlers}
 use Rattle.steps.specs.Steps.{Source, listing}
-use Rattle.steps.specs.mirror.Keeping.{Keeps, Catches}
+use Rattle.steps.specs.mirror.Keeping.{Keeps}
 use Rattle.walk.specs.Walk.{Given, walkSource, heldCheck}
 use Rattle.walk.specs.declared.Walked.{Walked}
 use Rattle.walk.specs.declared.Walked.the-variants as walked
 
 -- the source that the lent parts make, with the pool's elements by search
-abbrev pub sourceOf : List ℕ → List ℕ → List ℕ → List ℕ → List ℕ → Function → Source
-sourceOf code ops types slots payload f =
-    record { code = code; opcodes = opcodesOf ops; types = types; rfs = f .frame .«reg_file_start»; pooled = found (f .pool); elem = poolSearched slots payload (f .ts) (f .pool); handlers = [] }
+abbrev pub sourceOf : List ℕ → List ℕ → List ℕ → List ℕ → List ℕ → List ℕ → Function → Source
+sourceOf code ops types slots payload handlers f =
+    record { code = code; opcodes = opcodesOf ops; types = types; rfs = f .frame .«reg_file_start»; pooled = found (f .pool); elem = poolSearched slots payload (f .ts) (f .pool); handlers = handlers }
 
--- with handler records
-abbrev pub caughtBy : Source → List ℕ → Source
-caughtBy s handlers = record { code = s .code; opcodes = s .opcodes; types = s .types; rfs = s .rfs; pooled = s .pooled; elem = s .elem; handlers = handlers }
-
--- the check of the handler records was made, and a table has the words of what they catch
-pub record Late (s : Source) (catches : List ℕ) (late : Check) : Type 0 where
-  pub check : late ≡ checkHandlers (s .handlers) (length (s .code))
-  pub words : late ≡ Ok → Catches s catches
-
--- the table's parts that were found once: the opcodes' flows and the prefix opcodes
-pub record Tabled (ops flows : List ℕ) (f : Function) : Type 0 where
-  pub numbers : Numbered ops flows 256
+-- the prefix opcodes that were found once
+pub record Prefixed (ops : List ℕ) (f : Function) : Type 0 where
   pub wide : f .wide ≡ prefixOp ops 1
   pub extra : f .extra ≡ prefixOp ops 2
 
--- room where no head stands yet
+-- room of zeros
 abbrev pub Clear : List ℕ → Type 0
 Clear l = (t : ℕ) → getD l t 0 ≡ 0
 
@@ -61,10 +49,6 @@ pub record Started (s : Source) (heads words : List ℕ) (r : Check) : Type 0 wh
 -- an answer r and marks M are those of a call
 abbrev pub WalkedBy : Walked × List ℕ → Walked → List ℕ → Type 0
 WalkedBy a r M = (r ≡ a .0) × (M ≡ a .1)
-
--- the same of a source whose handler records' check, and the words of what they catch, were lent
-abbrev pub WalkedLate : Source → List ℕ → Check → List ℕ → Walked → List ℕ → Type 0
-WalkedLate s catches late marks r M = (hs : List ℕ) → Late (caughtBy s hs) catches late → WalkedBy (walkSource (caughtBy s hs) marks) r M
 
 -- ---- the calls, by the searches that the code makes
 -- code with a layout and a pool
