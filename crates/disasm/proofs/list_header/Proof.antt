@@ -16,8 +16,8 @@ same-length c = search needs
 
 returns : tie.Need-returns
 returns c =
-    let f : SFits w32 (c .before .before .before .before .before .before .before .before .before .before .before .before .before .before .before .args .h .«parameter_count») = record { sfits = c .before .before .before .before .before .before .before .struct-told .given .1 .0 .1 } in
-    rw (simp (toZ-ofZ f) at (c .before .before .before .before .before .before .function-of .ensures)) at (c .before .before .list-code .ensures)
+    let f : SFits w32 (c .before .before .before .before .before .before .before .before .before .before .before .before .before .args .h .«parameter_count») = record { sfits = c .before .before .before .before .before .struct-told .given .1 .0 .1 } in
+    rw (simp (toZ-ofZ f) at (c .before .before .before .before .function-of .ensures)) at (c .before .before .list-code .ensures)
 
 pub list-header-spec : {M : Type 1} → statement M
 list-header-spec =
