@@ -6,7 +6,7 @@ use Rattle.words.specs.Le.{leAt}
 use Rattle.words.specs.Signed.{modulo, wrap32, signed}
 use Rattle.text.specs.Texts.{decimal, lastDigits, hexDigit, hexByte}
 use Rattle.tables.specs.Names.{nameOk, nameAt, isNamed}
-use Rattle.tables.specs.Records.{width, firstMarked, typeNames, nameFits, sizeGood, sizeFits, fieldsOk, flowFits, typeCode}
+use Rattle.tables.specs.Records.{width, firstMarked, typeNames, nameFits, sizeGood, sizeFits, fieldsOk as opcodeFields, flowFits, typeCode}
 use Rattle.layout.specs.Layout.{ranges, rangeOf, layoutOf}
 use Rattle.tables.specs.Texts.{runtimeName}
 use Rattle.tables.specs.Check.{wholeRecords, checkTable}
@@ -33,7 +33,7 @@ use Rattle.cases.specs.Rows.Told.{walked}
 
 -- P1 to P12
 pub cases : map told asked ≡ rows
-unfolding told asked rows opcodes opcode typed types padded four fours layout checkTable wholeRecords within firstFrom nameOk fieldsOk flowFits typeCode sizeFits sizeGood nameFits isNamed
+unfolding told asked rows opcodes opcode typed types padded four fours layout checkTable wholeRecords within firstFrom nameOk opcodeFields flowFits typeCode sizeFits sizeGood nameFits isNamed
     typeNames ranges rangeOf layoutOf decodeOne decodeAt headAt firstMarked readParts partsFrom width isList kinds kindOf ofKind interpret leAt modulo wrap32
     signed lineBy operandsBy hexByte hexDigit flatMap nameAt decimal lastDigits runtimeName paramName regName listName operandText instrName targetCall targetOf
     flowKind flowOf isReturn poolElem operandOf indexOf numberOf distanceBy jumpTarget jumpTable tableBy sizedBy walkLentWith walkSource listFrom
@@ -42,7 +42,7 @@ cases = refl
 
 -- 02, Wish 4: empty code is closed, and no mark is written, whatever the mark buffer
 pub empty-cases : told (walks [] 0) ∷ told (walks [] 2) ∷ [] ≡ walked (walked-as.Closed, []) ∷ walked (walked-as.Closed, 7 ∷ 7 ∷ []) ∷ []
-unfolding told opcodes opcode typed types padded four fours layout checkTable wholeRecords within firstFrom nameOk fieldsOk flowFits typeCode sizeFits sizeGood nameFits isNamed
+unfolding told opcodes opcode typed types padded four fours layout checkTable wholeRecords within firstFrom nameOk opcodeFields flowFits typeCode sizeFits sizeGood nameFits isNamed
     typeNames ranges rangeOf layoutOf decodeOne decodeAt headAt firstMarked readParts partsFrom width isList kinds kindOf ofKind interpret leAt modulo wrap32
     signed lineBy operandsBy hexByte hexDigit flatMap nameAt decimal lastDigits runtimeName paramName regName listName operandText instrName targetCall targetOf
     flowKind flowOf isReturn poolElem operandOf indexOf numberOf distanceBy jumpTarget jumpTable tableBy sizedBy walkLentWith walkSource listFrom
