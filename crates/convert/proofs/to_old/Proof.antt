@@ -1,0 +1,36 @@
+use borrow.Author.Needs.{needs}
+use Rattle.convert.proofs.to_old.Statement.{statement}
+use Rattle.convert.proofs.to_old.Tie as tie
+
+check-back-requires : tie.Need-check-back-requires
+check-back-requires c κs = search needs
+
+enum-known-refusal : tie.Need-enum-known-refusal
+enum-known-refusal c = search needs
+
+enum-told : tie.Need-enum-told
+enum-told c = search needs
+
+write-old-requires : tie.Need-write-old-requires
+write-old-requires c κs = search needs
+
+returns : tie.Need-returns
+returns c = ?
+
+same-length : tie.Need-same-length
+same-length c = search needs
+
+returns-2 : tie.Need-returns-2
+returns-2 c = ?
+
+pub to-old-spec : {M : Type 1} → statement M
+to-old-spec =
+    tie.close
+    (tie.spec
+    check-back-requires
+    enum-known-refusal
+    enum-told
+    write-old-requires
+    returns
+    same-length
+    returns-2)
