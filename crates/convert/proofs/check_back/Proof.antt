@@ -1,3 +1,6 @@
+use Rattle.convert.proofs.Laws.{first-refused, first-passed}
+use Rattle.convert.specs.Convert.{checkBack}
+use mathlib.Core.Path.{sym, _∙_}
 use borrow.Author.Needs.{needs}
 use Rattle.convert.proofs.check_back.Statement.{statement}
 use Rattle.convert.proofs.check_back.Tie as tie
@@ -15,10 +18,12 @@ check-flows-requires : tie.Need-check-flows-requires
 check-flows-requires c κs = search needs
 
 returns : tie.Need-returns
-returns c = ?
+unfolding checkBack
+returns c = first-refused _ _ (sym (c .before .before .before .check-pair .ensures) ∙ c .before .refusal .given .1)
 
 returns-2 : tie.Need-returns-2
-returns-2 c = ?
+unfolding checkBack
+returns-2 c = c .check-flows .ensures ∙ first-passed _ _ (sym (c .before .before .before .check-pair .ensures) ∙ c .before .enum-told .given .1)
 
 pub check-back-spec : {M : Type 1} → statement M
 check-back-spec =
