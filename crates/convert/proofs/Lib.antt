@@ -1,2 +1,5 @@
-pub mod Names
+pub mod Flows
 pub mod Index
+pub mod Records
+pub mod Laws
+pub mod Convert

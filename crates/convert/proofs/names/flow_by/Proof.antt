@@ -6,7 +6,7 @@ use Rattle.laws.proofs.Tests.{past}
 use Rattle.flow.specs.declared.Kind.the-variants.{Ends, Branches}
 use Rattle.flow.specs.Flow.{plain}
 use Rattle.convert.specs.Names.{flows, flowBy}
-use Rattle.convert.proofs.Names.{flow-run, flow-past}
+use Rattle.convert.proofs.Flows.{flow-run, flow-past}
 use borrow.Author.Needs.{needs}
 use Rattle.convert.proofs.names.flow_by.Statement.{statement}
 use Rattle.convert.proofs.names.flow_by.Tie as tie
