@@ -82,27 +82,32 @@ pub fn tables() -> Vec<Case> {
     out
 }
 
-/// As many records as there may be, one more, and faults in the last of so many. A name record is
-/// an opcode record too, and the last of this run is neither.
+/// As many records as there may be, one more, and faults in the last of so many.
 fn limits(base: &Files) -> Vec<Case> {
     let mut names: Vec<u8> = (0..1025).flat_map(|k| name_record(&format!("N{k}"))).collect();
-    names[1024 * 64] = b'-';
-    let part = |first: usize, count: usize| names[64 * first..64 * (first + count)].to_vec();
+    names[1024 * SIZES[RUNTIME]] = b'-';
+    let mut opcodes: Vec<u8> =
+        (0..257).flat_map(|k| opcode_record(&format!("N{k}"), 0, &[])).collect();
+    opcodes[256 * SIZES[OPCODES]] = b'-';
+    let part = |file: usize, first: usize, count: usize| {
+        let records = if file == OPCODES { &opcodes } else { &names };
+        records[SIZES[file] * first..SIZES[file] * (first + count)].to_vec()
+    };
     let mut out = Vec::new();
     for (file, most) in [(RUNTIME, 1024), (INTRINSIC, 256), (OPCODES, 256)] {
         let name = FILES[file];
-        let with = |first, count| with_file(base, file, part(first, count));
+        let with = |first, count| with_file(base, file, part(file, first, count));
         let class = format!("table_check: refused 1, {name}, one too many");
         out.push(case(class, with(0, most + 1), refuse(1, 0)));
         let class = format!("table_check: passed, {name}, as many as there may be");
         out.push(case(class, with(0, most), Ok(())));
         let class = format!("table_check: refused 2, {name}, last of the most");
-        out.push(case(class, with(1025 - most, most), refuse(2, most - 1)));
+        let all = if file == OPCODES { 257 } else { 1025 };
+        out.push(case(class, with(all - most, most), refuse(2, most - 1)));
     }
-    let mut opcodes = part(0, 256);
-    opcodes[255 * 64 + 40] = 3;
+    let last = with_file(base, OPCODES, part(OPCODES, 0, 256));
     let class = "table_check: refused 3, opcodes, last of the most";
-    out.push(case(class, with_file(base, OPCODES, opcodes), refuse(3, 255)));
+    out.push(case(class, with(&last, OPCODES, 255, 40, &[3]), refuse(3, 255)));
     let mut types = base.body[TYPES].clone();
     types.extend((19..65).flat_map(|k| type_record(&format!("T{k}"), 2, true)));
     let class = "table_check: refused 1, types, one too many";
@@ -148,7 +153,7 @@ fn sizes(base: &Files) -> Vec<Case> {
     let types = base.body[TYPES][..17 * 32].to_vec();
     let few = with(&with_file(base, TYPES, types), OPCODES, 2, 42, &[9, 16, 15]);
     out.push(case("table_check: passed, 17 types", few, Ok(())));
-    let one = base.body[OPCODES][..64].to_vec();
+    let one = base.body[OPCODES][..SIZES[OPCODES]].to_vec();
     out.push(case("table_check: passed, one opcode", with_file(base, OPCODES, one), Ok(())));
     out
 }
@@ -198,8 +203,8 @@ fn opcodes(base: &Files) -> Vec<Case> {
             (41, &[0, 1]),
             (41, &[1, 0, 1]),
             (41, &[7, 0, 0, 0, 0, 0, 0, 0, 1]),
-            (50, &[1]),
-            (63, &[1]),
+            (54, &[1]),
+            (71, &[1]),
         ] {
             let files = with(base, OPCODES, record, at, bytes);
             out.push(case(class.clone(), files, refuse(3, record)));

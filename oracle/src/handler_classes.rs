@@ -3,6 +3,7 @@
 use crate::ask::*;
 use crate::checks::Refusal;
 use crate::decode::plain;
+use crate::flows::{ALWAYS, ENDS, MAYBE, SWITCHES};
 use crate::handlers::{self, Handler, MOST, SIZE};
 use crate::port::{Port, STORE, TABLE};
 use crate::records::Files;

@@ -44,7 +44,7 @@ pub fn record() -> Result<NamedRecording, String> {
 /// The switch's count is of type Imm.
 fn counted(files: &Files) -> Files {
     let mut files = files.clone();
-    files.body[OPCODES][9 * 64 + 43] = 9;
+    files.body[OPCODES][9 * OPCODE_SIZE + 43] = 9;
     files
 }
 

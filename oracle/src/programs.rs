@@ -183,7 +183,7 @@ fn case_files() -> BTreeMap<&'static str, Vec<u8>> {
     files.body[SLOTS] = Slot { index: 1, kind: 4, length, ..Slot::default() }.bytes();
     files.body[PAYLOAD] = payload(BOTH_NAMES);
     let mut prefix_3 = files.body[OPCODES].clone();
-    prefix_3[4 * 64 + 40] = 3;
+    prefix_3[4 * OPCODE_SIZE + 40] = 3;
     let mut full = payload(SAMPLE_CODE);
     full.resize(PROGRAM_FILE, 0);
     let mut long = full.clone();

@@ -3,6 +3,7 @@
 
 use crate::ask::*;
 use crate::decode::plain;
+use crate::flows::{ALWAYS, ENDS, MAYBE, SWITCHES};
 use crate::handler_classes;
 use crate::handlers::{self, Handler};
 use crate::port::{Port, STORE, TABLE};

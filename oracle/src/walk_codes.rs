@@ -2,10 +2,10 @@
 //! switches, most of them to instructions, so that walks are long and often closed.
 
 use crate::codes::{self, marked, width_of, Pools};
+use crate::flows::{ALWAYS, ENDS, MAYBE, SWITCHES};
 use crate::random::Random;
 use crate::records::*;
 use crate::sample;
-use crate::walks::{ALWAYS, ENDS, MAYBE, SWITCHES};
 
 // ---- stores ----
 
@@ -128,14 +128,14 @@ pub fn table(r: &mut Random, pools: &Pools, k: usize) -> Files {
     }
     let mut files = codes::table(r, pools, k);
     let body = &mut files.body[OPCODES];
-    body.truncate(64 * 20);
-    for record in body.chunks_exact_mut(64) {
+    body.truncate(OPCODE_SIZE * 20);
+    for record in body.chunks_exact_mut(OPCODE_SIZE) {
         if record[40] == 0 && !r.once_in(5) {
             record.copy_from_slice(&opcode(r));
         }
     }
     let wanted = 8 + r.below(9) as usize;
-    while body.len() / 64 < wanted {
+    while body.len() / OPCODE_SIZE < wanted {
         body.extend(opcode(r));
     }
     // Something to end on, and something that goes on.

@@ -303,7 +303,7 @@ fn scales() -> Vec<Case> {
     ] {
         let mut files = whole.clone();
         for opcode in unmarked {
-            files.body[OPCODES][64 * *opcode as usize + 40] = 0;
+            files.body[OPCODES][OPCODE_SIZE * *opcode as usize + 40] = 0;
         }
         for scale in [0, 1, 2, 3, 4, 5, 8, 255, 256, 257, 258, 260, 300, 1 << 32 | 2, u64::MAX] {
             let class = format!("scale {scale}");
@@ -319,8 +319,8 @@ fn opcodes() -> Vec<Case> {
     let mut most = files.clone();
     let records = most.body[OPCODES].len();
     most.body[OPCODES].extend((0..256).flat_map(|k| opcode_record(&format!("More{k}"), 0, &[])));
-    most.body[OPCODES].truncate(256 * 64);
-    let last = (records / 64) as u64 - 1;
+    most.body[OPCODES].truncate(256 * OPCODE_SIZE);
+    let last = (records / OPCODE_SIZE) as u64 - 1;
     let mut out = Vec::new();
     for scale in SCALES {
         for opcode in [WIDE, EXTRA_WIDE, LATER_WIDE, LATER_EXTRA, NONE, last] {
@@ -423,7 +423,7 @@ const FAULTS: [(u64, usize, usize, u8); 6] = [
     (1, LAYOUT, 80, 0),
     (2, OPCODES, 0, b'-'),
     (2, TYPES, 32, b'-'),
-    (3, OPCODES, 64 + 40, 3),
+    (3, OPCODES, OPCODE_SIZE + 40, 3),
     (4, TYPES, 31, 1),
     (5, LAYOUT, 0, 5),
 ];
