@@ -64,3 +64,54 @@ pub fn loaded(mut files: Files) -> Files {
     }
     files
 }
+
+#[cfg(test)]
+mod tests {
+    use super::*;
+    use crate::checks::refuse;
+    use crate::sample;
+
+    fn old_sample() -> Files {
+        let mut files = sample::table();
+        files.body[OPCODES] = old_opcodes(&files.body[OPCODES]);
+        files
+    }
+
+    #[test]
+    fn there_and_back() {
+        let (old, new) = (old_sample(), sample::table());
+        assert_eq!(old.body[OPCODES].len(), 12 * 64);
+        assert_eq!(to_new(&old, 12 * 72).as_ref(), Ok(&new.body[OPCODES]));
+        assert_eq!(to_old(&new, 12 * 64).as_ref(), Ok(&old.body[OPCODES]));
+        assert_eq!(to_new(&old, 12 * 72 - 1), refuse(17, 0));
+        assert_eq!(to_old(&new, 12 * 64 - 1), refuse(17, 0));
+        let switch = &new.body[OPCODES][9 * 72..10 * 72];
+        assert_eq!(switch[50..], [5, 0, 0, 1, 0, 0, 0, 0, 0, 0, 0, 0, 0, 0, 0, 0, 0, 0, 0, 0, 0, 0]);
+        // 768 is no multiple of 72, and 864 none of 64.
+        assert_eq!(to_old(&old, 9_999), refuse(1, 0));
+        assert_eq!(to_new(&new, 9_999), refuse(1, 0));
+    }
+
+    #[test]
+    fn order() {
+        let mut files = sample::table();
+        files.body[OPCODES][4 * 72 + 52] = 1;
+        files.body[OPCODES][3 * 72 + 53] = 1;
+        assert_eq!(to_old(&files, 0), refuse(27, 3));
+        files.body[TYPES][31] = 1;
+        assert_eq!(to_old(&files, 0), refuse(4, 0));
+        files.body[OPCODES][5 * 72 + 53] = 2;
+        assert_eq!(to_old(&files, 0), refuse(26, 5));
+        files.body[OPCODES][6 * 72 + 54] = 2;
+        assert_eq!(to_old(&files, 0), refuse(26, 5));
+        files.body[OPCODES][5 * 72 + 71] = 2;
+        assert_eq!(to_old(&files, 0), refuse(3, 5));
+    }
+
+    /// A folder's table is converted where it has records of 64 bytes, and is else as it is.
+    #[test]
+    fn a_folder_of_either_size() {
+        assert_eq!(loaded(old_sample()), sample::table());
+        assert_eq!(loaded(sample::table()), sample::table());
+    }
+}

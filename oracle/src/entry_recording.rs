@@ -209,7 +209,9 @@ pub fn wanted() -> Vec<String> {
         }
     }
     out.extend(["nothing, another name", "end"].map(String::from));
-    out.extend([1, 2, 3, 4, 5, 6, 7, 8, 10, 20, 11, 12, 13, 14].map(|n| format!("refused {n}")));
+    out.extend(
+        [1, 2, 3, 26, 4, 5, 6, 7, 8, 10, 20, 11, 12, 13, 14].map(|n| format!("refused {n}")),
+    );
     out
 }
 

@@ -1,7 +1,8 @@
-//! Tables and stores with one fault or two, for each refusal 1 to 7 at its first, middle and last
-//! place, and others at a limit with none. Each case says what document 01 answers to it.
+//! Tables and stores with one fault or two, for each refusal 1 to 7, and 26, at its first, middle and
+//! last place, and others at a limit with none. Each case says what the documents answer to it.
 
 use crate::checks::{refuse, Check};
+use crate::flows::MOST;
 use crate::records::*;
 use crate::sample;
 
@@ -79,6 +80,8 @@ pub fn tables() -> Vec<Case> {
     out.extend(types(&base));
     out.extend(layouts(&base));
     out.extend(orders(&base));
+    out.extend(flows(&base));
+    out.extend(flow_orders(&base));
     out
 }
 
@@ -315,6 +318,75 @@ fn orders(base: &Files) -> Vec<Case> {
     ];
     let named = |(what, files, says)| case(format!("table_check: order, {what}"), files, says);
     cases.into_iter().map(named).collect()
+}
+
+/// Each of bytes 50 to 53 at its ends and beyond, whatever the others are, and the zeros behind them: 26 and 3.
+fn flows(base: &Files) -> Vec<Case> {
+    let mut out = Vec::new();
+    for (place, record) in places(base.count(OPCODES)) {
+        for (k, most) in MOST.into_iter().enumerate() {
+            let at = FLOW + k;
+            for value in [1, most] {
+                let files = with(base, OPCODES, record, at, &[value]);
+                let class = format!("table_check: passed, byte {at} up to {most}, {place}");
+                out.push(case(class, files, Ok(())));
+            }
+            for value in [most + 1, 255] {
+                let files = with(base, OPCODES, record, at, &[value]);
+                let class = format!("table_check: refused 26, byte {at}, {place}");
+                out.push(case(class, files, refuse(26, record)));
+            }
+        }
+        let class = format!("table_check: passed, bytes 50 to 53 at their most, {place}");
+        out.push(case(class, with(base, OPCODES, record, FLOW, &MOST), Ok(())));
+        for at in [54, 63, 64, 71] {
+            let files = with(base, OPCODES, record, at, &[1]);
+            let class = format!("table_check: refused 3, byte {at}, {place}");
+            out.push(case(class, files, refuse(3, record)));
+        }
+    }
+    for kind in 0..=MOST[0] {
+        let files = with(base, OPCODES, 2, FLOW, &[kind, 1, 7, 1]);
+        out.push(case(format!("table_check: passed, flow {kind}"), files, Ok(())));
+        let files = with(base, OPCODES, 2, FLOW, &[kind, 0, 8, 0]);
+        let class = format!("table_check: refused 26, byte 52 of flow {kind}");
+        out.push(case(class, files, refuse(26, 2)));
+    }
+    out
+}
+
+/// 26 with other faults: met record by record with 3, behind it in a record, and between 2 and 4.
+fn flow_orders(base: &Files) -> Vec<Case> {
+    let flow = |files: &Files, record| with(files, OPCODES, record, FLOW, &[6]);
+    let opcode = |files: &Files, record| with(files, OPCODES, record, 40, &[7]);
+    let zeros = |files: &Files, record| with(files, OPCODES, record, 71, &[7]);
+    let name = |files: &Files, file, record| with(files, file, record, 0, b"-");
+    let kind = |files: &Files, record| with(files, TYPES, record, 30, &[7]);
+    let value = |files: &Files, at: usize| with(files, LAYOUT, 0, 4 * at, &[99]);
+    let cut = |files: &Files, file: usize| {
+        let body = files.body[file][1..].to_vec();
+        with_file(files, file, body)
+    };
+    let cases = [
+        ("26 before 3 of a later record", opcode(&flow(base, 2), 3), refuse(26, 2)),
+        ("26 before zeros of a later record", zeros(&flow(base, 0), 1), refuse(26, 0)),
+        ("3 before 26 of a later record", opcode(&flow(base, 3), 2), refuse(3, 2)),
+        ("3 before 26 of its own record", opcode(&flow(base, 3), 3), refuse(3, 3)),
+        ("zeros before 26 of their own record", zeros(&flow(base, 4), 4), refuse(3, 4)),
+        ("26, the first of two", flow(&flow(base, 4), 1), refuse(26, 1)),
+        ("1 before 26", cut(&flow(base, 0), LAYOUT), refuse(1, 0)),
+        ("2 before 26", name(&flow(base, 0), OPCODES, 4), refuse(2, 4)),
+        ("2 of a later file before 26", name(&flow(base, 0), INTRINSIC, 2), refuse(2, 2)),
+        ("26 before 4", flow(&kind(base, 0), 4), refuse(26, 4)),
+        ("26 before 5", flow(&value(base, 0), 4), refuse(26, 4)),
+    ];
+    let named = |(what, files, says)| case(format!("table_check: order, {what}"), files, says);
+    let mut out: Vec<Case> = cases.into_iter().map(named).collect();
+    let opcodes = (0..256).flat_map(|k| opcode_record(&format!("N{k}"), 0, &[])).collect();
+    let last = with(&with_file(base, OPCODES, opcodes), OPCODES, 255, FLOW, &[6]);
+    let class = "table_check: refused 26, opcodes, last of the most";
+    out.push(case(class, last, refuse(26, 255)));
+    out
 }
 
 // ---- stores ----

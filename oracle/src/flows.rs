@@ -137,3 +137,100 @@ fn by_bytes(port: &Port, function: usize, ins: &Instr) -> Option<usize> {
     };
     Some(to as usize)
 }
+
+#[cfg(test)]
+mod tests {
+    use super::*;
+    use crate::decode;
+    use crate::port::{STORE, TABLE};
+    use crate::random::Random;
+    use crate::records::*;
+    use crate::sample;
+
+    /// The bytes of every name that has a flow, as documents 01 and 02 say them.
+    const GIVEN: [(&str, [u8; 4]); 13] = [
+        ("Return", [1, 0, 0, 0]),
+        ("SuspendGenerator", [1, 0, 0, 0]),
+        ("Throw", [1, 0, 0, 0]),
+        ("ReThrow", [1, 0, 0, 0]),
+        ("Abort", [1, 0, 0, 0]),
+        ("Jump", [2, 0, 0, 0]),
+        ("JumpConstant", [2, 1, 0, 0]),
+        ("JumpLoop", [4, 0, 0, 0]),
+        ("JumpLoopConstant", [4, 1, 0, 0]),
+        ("SwitchOnSmiNoFeedback", [5, 0, 0, 1]),
+        ("SwitchOnGeneratorState", [5, 0, 1, 0]),
+        ("LdaConstant", [0, 0, 0, 0]),
+        ("JumpIfForInDone", [0, 0, 0, 0]),
+    ];
+
+    #[test]
+    fn names() {
+        for (name, bytes) in GIVEN {
+            assert_eq!(of_name(name), bytes, "{name}");
+        }
+        // The others in the list of the Rust's `jump_target`.
+        let conditions = [
+            "True",
+            "False",
+            "ToBooleanTrue",
+            "ToBooleanFalse",
+            "Null",
+            "NotNull",
+            "Undefined",
+            "UndefinedOrNull",
+            "NotUndefined",
+            "JSReceiver",
+            "NotHole",
+            "ReferenceError",
+            "NotReferenceError",
+        ];
+        assert_eq!(2 * conditions.len(), MAYBE.len());
+        for condition in conditions {
+            assert_eq!(of_name(&format!("JumpIf{condition}")), [3, 0, 0, 0], "{condition}");
+            assert_eq!(of_name(&format!("JumpIf{condition}Constant")), [3, 1, 0, 0]);
+            assert_eq!(of_name(&format!("jumpIf{condition}")), [0; 4]);
+        }
+    }
+
+    #[test]
+    fn each_byte_by_itself() {
+        assert!(is_good([0, 0, 0, 0]) && is_good([5, 1, 7, 1]) && is_good([0, 1, 7, 1]));
+        for flow in [[6, 0, 0, 0], [0, 2, 0, 0], [0, 0, 8, 0], [0, 0, 0, 2], [255, 1, 7, 1]] {
+            assert!(!is_good(flow), "{flow:?}");
+        }
+    }
+
+    /// On the flows of names the own reading is what the Rust says, at each scale.
+    #[test]
+    fn as_the_rust_by_names() {
+        let mut r = Random::new(1);
+        let mut found = [0; 2];
+        let pool = [Some(4), None, Some(-1), Some(i32::MIN), Some(i32::MAX), Some(0)];
+        for name in ALWAYS.iter().chain(&MAYBE).chain(&ENDS).chain(&SWITCHES).chain(&["Star"]) {
+            let mut files = sample::function(&[], 8, &pool);
+            for code in [9, 10, 11, 0, 13] {
+                files.body[OPCODES].extend(opcode_record(name, 0, &[code, 9]));
+            }
+            files.body[OPCODES].extend(opcode_record(name, 0, &[]));
+            let port = Port::new(&files, TABLE | STORE).unwrap();
+            for _ in 0..400 {
+                let scale = *r.pick(&[1, 2, 4]);
+                let mut code = vec![scale as u8 / 4; (scale > 1) as usize];
+                code.push(0x0c + r.below(6) as u8);
+                for _ in 0..2 {
+                    let number = if r.once_in(2) { r.next() } else { r.below(9) };
+                    code.extend(&number.to_le_bytes()[..scale]);
+                }
+                let Ok(Some(ins)) = decode::one(&port, &code, 0) else {
+                    panic!("{code:02x?}");
+                };
+                assert!(port.flow(&ins).named);
+                let rust = port.disassembler().open_jump_target(0, &ins);
+                assert_eq!(by_bytes(&port, 0, &ins), rust, "{name} {code:02x?}");
+                found[rust.is_some() as usize] += 1;
+            }
+        }
+        assert!(found.iter().all(|n| *n > 2_000), "{found:?}");
+    }
+}

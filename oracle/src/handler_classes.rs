@@ -59,18 +59,18 @@ fn code_length(
 ) -> Result<Option<usize>, String> {
     Ok(match number {
         _ if !of_object(call) => Some(lent.len()),
-        0..=9 => None,
+        0..=9 | 26 => None,
         19 => Some(Port::new(files, TABLE | STORE)?.code_length(0) as usize),
         _ => Some(Port::new(files, TABLE | STORE)?.code(0).len()),
     })
 }
 
-/// 19 is before 18, and the others are in the order of their numbers.
+/// 19 is before 18, 26 is met with 3, and the others are in the order of their numbers.
 fn order(number: u64) -> u64 {
-    if number == 18 {
-        20
-    } else {
-        number
+    match number {
+        18 => 20,
+        26 => 3,
+        _ => number,
     }
 }
 
@@ -422,7 +422,7 @@ const REFUSED: [&str; 19] = [
 ];
 
 /// Numbers before 24; 9 and 19 are those of an object's code, 10 that of lent code.
-const BEFORE: [u64; 15] = [1, 2, 3, 4, 5, 6, 7, 8, 11, 12, 13, 14, 15, 16, 18];
+const BEFORE: [u64; 16] = [1, 2, 3, 26, 4, 5, 6, 7, 8, 11, 12, 13, 14, 15, 16, 18];
 
 pub fn wanted() -> Vec<String> {
     let mut out: Vec<String> =

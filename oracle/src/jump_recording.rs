@@ -380,12 +380,14 @@ pub fn wanted() -> Vec<String> {
         out.push(format!("{function}: nothing, another name"));
         out.push(format!("{function}: end"));
         out.extend(
-            [1, 2, 3, 4, 5, 6, 7, 8, 10, 20, 11, 12, 13, 14]
+            [1, 2, 3, 26, 4, 5, 6, 7, 8, 10, 20, 11, 12, 13, 14]
                 .map(|n| format!("{function}: refused {n}")),
         );
     }
     out.extend(["found", "nothing"].map(|c| format!("max_register: {c}")));
-    out.extend([1, 2, 3, 4, 5, 10, 11, 12, 13, 14].map(|n| format!("max_register: refused {n}")));
+    out.extend(
+        [1, 2, 3, 26, 4, 5, 10, 11, 12, 13, 14].map(|n| format!("max_register: refused {n}")),
+    );
     out
 }
 

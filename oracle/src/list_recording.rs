@@ -177,7 +177,9 @@ fn entries(line: &str) -> &'static str {
 /// Classes that must have a case.
 pub fn wanted() -> Vec<String> {
     let mut out: Vec<String> = Vec::new();
-    out.extend([1, 2, 3, 4, 5, 6, 7, 8, 9, 11, 12, 13, 14, 15, 16].map(|n| format!("refused {n}")));
+    out.extend(
+        [1, 2, 3, 26, 4, 5, 6, 7, 8, 9, 11, 12, 13, 14, 15, 16].map(|n| format!("refused {n}")),
+    );
     for ts in [4, 8] {
         out.extend([0, 4, 8].map(|unit| format!("tagged size {ts}, unit {unit}")));
     }

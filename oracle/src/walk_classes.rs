@@ -375,7 +375,7 @@ const OF_OBJECTS: [&str; 11] = [
 ];
 
 /// Refusals of both functions; 9 and 19 are those of an object's code, 10 that of lent code.
-const REFUSALS: [u64; 15] = [1, 2, 3, 4, 5, 6, 7, 8, 11, 12, 13, 14, 15, 16, 18];
+const REFUSALS: [u64; 16] = [1, 2, 3, 26, 4, 5, 6, 7, 8, 11, 12, 13, 14, 15, 16, 18];
 
 pub fn wanted() -> Vec<String> {
     let mut out: Vec<String> = WANTED.iter().map(|class| class.to_string()).collect();

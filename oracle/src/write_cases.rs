@@ -418,19 +418,23 @@ fn tables() -> Vec<Case> {
     cases.step_by(3).map(one).collect()
 }
 
-/// Faults of a table with refusals 1 to 5, as file, place and byte.
-const FAULTS: [(u64, usize, usize, u8); 6] = [
+/// Faults of a table with refusals 1 to 5, and 26, as file, place and byte.
+const FAULTS: [(u64, usize, usize, u8); 7] = [
     (1, LAYOUT, 80, 0),
     (2, OPCODES, 0, b'-'),
     (2, TYPES, 32, b'-'),
     (3, OPCODES, OPCODE_SIZE + 40, 3),
+    (26, OPCODES, 2 * OPCODE_SIZE + FLOW, 6),
     (4, TYPES, 31, 1),
     (5, LAYOUT, 0, 5),
 ];
 
-/// Every two faults of rows 1 to 5, 21, 22, 23 and 17 at once, and all from one on.
+/// The refusals in their order.
+pub const ROWS: [u64; 10] = [1, 2, 3, 26, 4, 5, 21, 22, 23, 17];
+
+/// Every two faults of these rows at once, and all from one on.
 fn orders() -> Vec<Case> {
-    let rows = [1, 2, 3, 4, 5, 21, 22, 23, 17];
+    let rows = ROWS;
     let mut out = Vec::new();
     for (k, first) in rows.iter().enumerate() {
         for second in &rows[k..] {
