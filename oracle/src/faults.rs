@@ -80,9 +80,13 @@ pub fn tables() -> Vec<Case> {
     out.extend(types(&base));
     out.extend(layouts(&base));
     out.extend(orders(&base));
-    out.extend(flows(&base));
-    out.extend(flow_orders(&base));
     out
+}
+
+/// Tables with a flow that is good, or at fault.
+pub fn flow_tables() -> Vec<Case> {
+    let base = table();
+    [flows(&base), flow_orders(&base)].into_iter().flatten().collect()
 }
 
 /// As many records as there may be, one more, and faults in the last of so many.

@@ -1,7 +1,9 @@
 //! Opcodes whose flow is not that of their name (Wish 6), and functions of such: chosen ones, random ones, and what each is a case of.
 
+use crate::ask::{self, Call, NO_OBJECT};
+use crate::checks::MOST_ENTRIES;
 use crate::codes::{marked, width_of};
-use crate::decode::plain;
+use crate::decode::{self, plain};
 use crate::flows::{self, Flow, JUMPS_BACK, MOST, SWITCHES_ON};
 use crate::port::Port;
 use crate::random::Random;
@@ -161,8 +163,9 @@ fn by_kind() -> Chosen {
     out
 }
 
-/// Counts that number 16 is about: of an opcode by its flow, and of a switch's name with another flow. In front stands LdaZero.
-pub fn counted() -> Vec<(Files, Vec<u8>)> {
+/// Counts that number 16 is about: of an opcode by its flow, and of a switch's name with another flow. In front stands LdaZero. The
+/// greatest count, of which the answer can be long, is there where it is asked for.
+pub fn counted(greatest: bool) -> Vec<(Files, Vec<u8>)> {
     let mut out = Vec::new();
     for (name, flow) in [
         ("TestAndJump", [5, 0, 0, 1]),
@@ -172,7 +175,8 @@ pub fn counted() -> Vec<(Files, Vec<u8>)> {
         ("SwitchOnGeneratorState", [5, 0, 0, 0]),
         ("SwitchOnGeneratorState", [3, 0, 1, 0]),
     ] {
-        for numbers in [[0, 4_096, 5], [0, 4_097, 5], [0, -1, 5], [0, 2, 4_097]] {
+        let all = [[0, 4_096, 5], [0, 4_097, 5], [0, -1, 5], [0, 2, 4_097]];
+        for numbers in &all[!greatest as usize..] {
             let operands = numbers.iter().flat_map(|n: &i16| n.to_le_bytes());
             let code: Vec<u8> =
                 [0x02, 0x00, 0x0c].into_iter().chain(operands).chain([0x0b]).collect();
@@ -216,15 +220,36 @@ pub fn change_flows(r: &mut Random, files: &mut Files) {
             continue;
         }
         let record = &mut files.body[OPCODES][k * OPCODE_SIZE..][..OPCODE_SIZE];
-        let kind = *r.pick(&[0, 1, 2, 2, 3, 3, 3, 4, 4, 5, 5, 5]);
-        let operands = record[41] as u64;
-        let first = if r.once_in(8) { r.below(8) } else { r.below(operands.max(1)) };
-        let flow = [kind, r.below(2) as u8, first as u8, r.below(2) as u8];
+        let codes = operand_codes(&record[42..42 + record[41] as usize]);
+        // An operand that is a number, where there is one.
+        let numbers: Vec<usize> =
+            (0..codes.len()).filter(|k| matches!(codes[*k], 8..=12)).collect();
+        let first = match r.below(8) {
+            0 => r.below(8) as usize,
+            _ if numbers.is_empty() => 0,
+            _ => *r.pick(&numbers),
+        };
+        let kinds: &[u8] = match numbers.len() {
+            0 => &[0, 1, 1, 2, 3],
+            1 => &[0, 1, 2, 2, 3, 3, 3, 4],
+            _ => &[0, 1, 2, 3, 3, 4, 5, 5, 5],
+        };
+        let pool = codes.get(first).is_some_and(|code| *code == 10) || r.once_in(8);
+        let flow = [*r.pick(kinds), pool as u8, first as u8, r.below(2) as u8];
         record[FLOW..FLOW + 4].copy_from_slice(&flow);
     }
 }
 
+/// The type code of each decoded operand.
+fn operand_codes(codes: &[u8]) -> Vec<u8> {
+    let counts = |k: usize| codes[k] == 8 && k > 0 && matches!(codes[k - 1], 6 | 7);
+    (0..codes.len()).filter(|k| !counts(*k)).map(|k| codes[k]).collect()
+}
+
 // ---- classes ----
+
+/// Counts that pass number 16.
+const COUNTS: std::ops::RangeInclusive<i64> = 0..=MOST_ENTRIES;
 
 /// Which cases an instruction is one of; none where its flow is that of its name.
 pub fn classes(port: &Port, function: usize, ins: &Instr) -> Vec<String> {
@@ -264,11 +289,30 @@ pub fn classes(port: &Port, function: usize, ins: &Instr) -> Vec<String> {
     out
 }
 
+/// The same for the instruction that a call on lent code is about; None where its flow is that of its name, or there is none.
+pub fn of_call(files: &Files, code: &[u8], call: &Call) -> Result<Option<Vec<String>>, String> {
+    let port = Port::new(files, ask::lent(call))?;
+    let function = match call.args[0] {
+        NO_OBJECT => port.without_pool(),
+        object => object as usize,
+    };
+    let Ok(Some(ins)) = decode::checked(&port, code, call.args[1]) else {
+        return Ok(None);
+    };
+    Ok(match port.flow(&ins).named {
+        true => None,
+        false => Some(classes(&port, function, &ins)),
+    })
+}
+
 /// What it does.
 fn what(port: &Port, function: usize, ins: &Instr, flow: &Flow) -> &'static str {
     match flow.kind {
         flows::ON => "on",
         flows::STOPS => "ends",
+        SWITCHES_ON if switches::table(port, ins).is_some_and(|t| !COUNTS.contains(&t.count)) => {
+            "a bad count"
+        }
         SWITCHES_ON => match switches::entries(port, function, ins) {
             None => "no table",
             Some(entries) if entries.is_empty() => "no entries",
@@ -325,8 +369,7 @@ pub fn wanted_kinds() -> Vec<String> {
 #[cfg(test)]
 mod tests {
     use super::*;
-    use crate::ask::{ask, Call, JUMP_TABLE, JUMP_TARGET, LISTING, WALK};
-    use crate::decode;
+    use crate::ask::{ask, JUMP_TABLE, JUMP_TARGET, LISTING, WALK};
     use crate::port::{STORE, TABLE};
 
     /// What is said of an instruction behind four LdaZero, by an opcode of this name, operands and flow.

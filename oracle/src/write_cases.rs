@@ -47,8 +47,9 @@ pub fn cases() -> Vec<Case> {
     out.extend(rooms());
     out.extend(registers());
     out.extend(not_read());
-    out.extend(tables());
+    out.extend(tables(faults::tables()));
     out.extend(orders());
+    out.extend(tables(faults::flow_tables()));
     out
 }
 
@@ -405,9 +406,9 @@ fn not_read() -> Vec<Case> {
 // ---- the table's refusals, and the order ----
 
 /// Tables to be refused, and tables whose fault lies in names that a writer is not lent.
-fn tables() -> Vec<Case> {
+fn tables(cases: Vec<faults::Case>) -> Vec<Case> {
     let small = |files: &Files| files.body.iter().all(|b| b.len() < 2_000);
-    let cases = faults::tables().into_iter().filter(|case| small(&case.files));
+    let cases = cases.into_iter().filter(|case| small(&case.files));
     // Opcode 4 takes a register.
     let one = |case: faults::Case| Case {
         class: case.class.replace("table_check: ", "table, "),

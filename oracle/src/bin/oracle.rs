@@ -47,7 +47,7 @@ const USAGE: &str = "usage:
   oracle record-handlers SEED OUT     write vectors of the walk with handler records, and count their classes
   oracle record-tries EXPORTED PRINT OUT   write vectors of the walk over such functions with V8's handler tables, and count them
   oracle record-tries-v8 FOLDER OUT   the same for V8's functions (v8-listings)
-  oracle record-programs CRATES       write data, args and stdout of jscd_list, jscd_walk, file_cases
+  oracle record-programs CRATES       write data, args and stdout of jscd_list, jscd_walk, jscd_convert, file_cases
   oracle walk DIR [MARKS]             the walk over object 0's code with a mark buffer of so many bytes (65536)";
 
 fn main() -> ExitCode {
