@@ -4,9 +4,10 @@
 use crate::ask::*;
 use crate::checks::MOST_CODE;
 use crate::classes::Classes;
-use crate::codes::{self, Pools};
+use crate::codes;
 use crate::decode;
-use crate::faults;
+use crate::faults::{self, Case};
+use crate::flow_cases;
 use crate::handler_classes::named;
 use crate::handlers::{self, Handler, MOST, SIZE};
 use crate::port::{Port, TABLE};
@@ -22,6 +23,8 @@ const TABLES: usize = 16;
 const CODES: usize = 15;
 const SETS: usize = 6;
 const OBJECTS_CODES: usize = 2;
+/// Random tables whose opcodes have other flows than their names.
+const FLOW_TABLES: usize = 5;
 /// Only contents longer than this are looked for in the file.
 const SHORT: usize = 300;
 /// No instruction starts there, whatever the code.
@@ -54,11 +57,18 @@ pub fn record(seed: u64) -> Result<HandlerRecording, String> {
     out.refused_records()?;
     out.refused_codes()?;
     out.objects()?;
-    out.faults()?;
+    out.faults(faults::tables(), faults::stores())?;
     out.limits()?;
     let pools = codes::pools(&mut r);
     for k in 0..TABLES {
-        out.table(&mut r, &pools, k)?;
+        let files = walk_codes::table(&mut r, &pools, k);
+        out.table(&mut r, files)?;
+    }
+    out.flows()?;
+    for k in 0..FLOW_TABLES {
+        let mut files = walk_codes::table(&mut r, &pools, k);
+        flow_cases::change_flows(&mut r, &mut files);
+        out.table(&mut r, files)?;
     }
     Ok(out)
 }
@@ -151,6 +161,22 @@ impl HandlerRecording {
                 }
                 if scale > 1 {
                     self.code_with(0, &one(1, end, NOWHERE))?;
+                }
+            }
+        }
+        Ok(())
+    }
+
+    /// Flows at fault; chosen opcodes whose flow is not that of their name: with a handler that is an instruction, and with one that is none.
+    fn flows(&mut self) -> Result<(), String> {
+        self.faults(faults::flow_tables(), Vec::new())?;
+        let [chosen, ..] = flow_cases::chosen();
+        for scale in [1, 2] {
+            for row in &chosen.rows {
+                let code = flow_cases::code_of(&row.instruction(&chosen.files, scale));
+                self.set(&chosen.files, &code);
+                for to in [code.len() as u32 - 2, NOWHERE] {
+                    self.code_with(0, &one(4, 5, to))?;
                 }
             }
         }
@@ -338,11 +364,11 @@ impl HandlerRecording {
     }
 
     /// Tables and stores to be refused: the first of each number.
-    fn faults(&mut self) -> Result<(), String> {
+    fn faults(&mut self, tables: Vec<Case>, stores: Vec<Case>) -> Result<(), String> {
         let sample = sample::sample();
         let small = |files: &Files| files.body.iter().all(|b| b.len() < 2_000);
-        let tables = faults::tables().into_iter().map(|case| (case, OPCODES..OBJECTS));
-        let stores = faults::stores().into_iter().map(|case| (case, OBJECTS..PAYLOAD + 1));
+        let tables = tables.into_iter().map(|case| (case, OPCODES..OBJECTS));
+        let stores = stores.into_iter().map(|case| (case, OBJECTS..PAYLOAD + 1));
         for (case, part) in tables.chain(stores).filter(|(case, _)| small(&case.files)) {
             let mut files = sample.clone();
             files.body[part.clone()].clone_from_slice(&case.files.body[part]);
@@ -392,8 +418,7 @@ impl HandlerRecording {
     }
 
     /// Codes by a table, each with some files of records.
-    fn table(&mut self, r: &mut Random, pools: &Pools, k: usize) -> Result<(), String> {
-        let mut files = walk_codes::table(r, pools, k);
+    fn table(&mut self, r: &mut Random, mut files: Files) -> Result<(), String> {
         let pool = walk_codes::pool(r);
         set_store(&mut files, &[], &[], &pool);
         for _ in 0..CODES {

@@ -83,7 +83,8 @@ mod tests {
     use crate::ask::{ask_with, Answer, Call, NO_OBJECT, WALK_CODE_WITH, WALK_WITH};
     use crate::records::*;
     use crate::sample;
-    use crate::walks::{packed, ENDS};
+    use crate::flows::ENDS;
+    use crate::walks::packed;
 
     /// The sample's table, with the other ends from 0c on.
     fn table(mut files: Files) -> Files {

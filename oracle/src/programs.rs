@@ -1,8 +1,10 @@
-//! What the programs jscd_list, jscd_walk and file_cases are run on in the gate, and what they must
-//! print: the listing as the Rust says it, the walk as document 01 does.
+//! What the programs jscd_list, jscd_walk, jscd_convert and file_cases are run on in the gate, and what
+//! they must print: the listing as the Rust says it, the walk as document 01 does, the conversion as
+//! document 02 does.
 
 use crate::ask::{ask, ask_with, Call, LISTING, WALK, WALK_WITH};
 use crate::checks::PROGRAM_FILE;
+use crate::convert::old_opcodes;
 use crate::handlers::{self, Handler};
 use crate::records::*;
 use crate::sample;
@@ -105,7 +107,7 @@ const HANDLED: [&str; 9] = [
 /// The set that has `06 02 0b`.
 const P12_SET: usize = 8;
 
-/// The data folders, arguments and outputs of the three programs.
+/// The data folders, arguments and outputs of the four programs.
 pub fn record() -> Result<Tree, String> {
     let mut tree = Tree::new();
     tree.insert("jscd_list/stdout".into(), said(&sample::sample(), LISTING)?.into_bytes());
@@ -121,6 +123,12 @@ pub fn record() -> Result<Tree, String> {
     tree.insert("jscd_walk/data/handlers.bin".into(), records);
     let words = ["--handlers", "handlers.bin"].into_iter().chain(NAMES);
     tree.insert("jscd_walk/args".into(), words.map(|word| format!("{word}\n")).collect::<String>().into_bytes());
+    // The conversion is run on the sample's opcodes as document 01 has them, and gives those that jscd_list reads.
+    let [opcodes, types, ..] = sample::sample().body;
+    tree.insert("jscd_convert/data/old.bin".into(), old_opcodes(&opcodes));
+    tree.insert("jscd_convert/data/types.bin".into(), types);
+    tree.insert("jscd_convert/args".into(), b"new\nold.bin\ntypes.bin\n".to_vec());
+    tree.insert("jscd_convert/stdout".into(), opcodes);
     let data = case_files();
     tree.insert("file_cases/args".into(), arguments().into_bytes());
     tree.insert("file_cases/stdout".into(), case_output(&data)?.into_bytes());
@@ -183,7 +191,7 @@ fn case_files() -> BTreeMap<&'static str, Vec<u8>> {
     files.body[SLOTS] = Slot { index: 1, kind: 4, length, ..Slot::default() }.bytes();
     files.body[PAYLOAD] = payload(BOTH_NAMES);
     let mut prefix_3 = files.body[OPCODES].clone();
-    prefix_3[4 * 64 + 40] = 3;
+    prefix_3[4 * OPCODE_SIZE + 40] = 3;
     let mut full = payload(SAMPLE_CODE);
     full.resize(PROGRAM_FILE, 0);
     let mut long = full.clone();
@@ -274,8 +282,9 @@ fn set_files(data: &BTreeMap<&str, Vec<u8>>, set: usize) -> Option<Files> {
 #[cfg(test)]
 mod tests {
     use super::*;
+    use crate::ask::{Answer, TO_NEW};
 
-    /// The files of the three programs are what is made today.
+    /// The files of the four programs are what is made today.
     #[test]
     fn the_programs_files_are_current() {
         let crates = Path::new(env!("CARGO_MANIFEST_DIR")).join("../crates");
@@ -311,6 +320,17 @@ mod tests {
         for (title, said) in HANDLED.iter().zip(said.into_iter().chain(["refused 24 at 0", "closed"])) {
             assert!(output.contains(&format!("\n{title}\n{said}\n")), "{title}");
         }
+    }
+
+    /// Wish 6: what the conversion prints is what the listing program reads.
+    #[test]
+    fn the_conversion_shows() {
+        let tree = record().unwrap();
+        let mut files = sample::sample();
+        files.body[OPCODES] = tree["jscd_convert/data/old.bin"].clone();
+        let said = ask(&files, &[], &Call::new(TO_NEW, &[65_536])).unwrap();
+        assert_eq!(said, Answer::Written(tree["jscd_convert/stdout"].clone()));
+        assert_eq!(tree["jscd_convert/stdout"], tree["jscd_list/data/opcodes.bin"]);
     }
 
     /// A runtime name and an intrinsic name show, and not one for the other.
