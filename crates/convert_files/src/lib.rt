@@ -5,6 +5,8 @@ use libc::STDOUT_FILENO;
 use refusal::Refusal;
 use tables::Form;
 use text::Written;
+ghost use Rattle.text.specs.Numbers.{WrittenAs};
+ghost use Rattle.convert_files.specs.ConvertedBy.{convertedBy};
 
 // The whole program, on its arguments: new or old, the opcodes and the types.
 pub fn run() {
@@ -18,9 +20,9 @@ pub fn run_on(from: u8, to: u8) {
     if to as usize != first + 3 {
         usage();
     } else if inputs::is_argument(first, b"new") {
-        run_by(Form::New, first + 1);
+        run_by(Form::New, from);
     } else if inputs::is_argument(first, b"old") {
-        run_by(Form::Old, first + 1);
+        run_by(Form::Old, from);
     } else {
         usage();
     }
@@ -33,16 +35,16 @@ fn usage() {
     );
 }
 
-// Converts the opcodes and types of two arguments from number first on. A table's files have at most 18,432 and 2,048 bytes; there is room for one more, in which a longer file
+// Converts the opcodes and types that the two arguments behind number from name. A table's files have at most 18,432 and 2,048 bytes; there is room for one more, in which a longer file
 // shows.
-fn run_by(to: Form, first: usize) {
+fn run_by(to: Form, from: u8) {
     let mut opcodes = [0u8; 18433];
     let mut types = [0u8; 2049];
-    let o = inputs::load_argument(first, &mut opcodes);
+    let o = inputs::load_argument(from as usize + 1, &mut opcodes);
     if !o.good {
         return;
     }
-    let t = inputs::load_argument(first + 1, &mut types);
+    let t = inputs::load_argument(from as usize + 2, &mut types);
     if !t.good {
         return;
     }
@@ -51,10 +53,19 @@ fn run_by(to: Form, first: usize) {
 
 fn print(to: Form, opcodes: &[u8], types: &[u8]) {
     let mut out = [0u8; 18432];
-    let written = convert::convert(to, &mut out, opcodes, types);
+    let written = converted(to, &mut out, opcodes, types);
     match written {
         Written::Done(n) => print_file(&out, n),
         Written::Refused(r) => print_refusal(r),
+    }
+}
+
+fn converted(to: Form, out: &mut [u8], opcodes: &[u8], types: &[u8]) -> Written
+    ensures { λ r. ⌜ WrittenAs (convertedBy to (now (opcodes .entry)) (now (types .entry)) (now (out .entry))) r (now (out .exit)) ⌝ }
+{
+    match to {
+        Form::New => convert::to_new(out, opcodes, types),
+        Form::Old => convert::to_old(out, opcodes, types),
     }
 }
 
