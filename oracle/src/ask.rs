@@ -180,7 +180,10 @@ const TO_WRITE: [&str; writes::NUMBERS + 1] = {
     names
 };
 
-const fn conversion(name: &'static str, run: fn(&Files, u64) -> Result<Vec<u8>, Refusal>) -> Function {
+const fn conversion(
+    name: &'static str,
+    run: fn(&Files, u64) -> Result<Vec<u8>, Refusal>,
+) -> Function {
     Function { name, args: &["room"], lent: convert::LENT, run: Run::Convert(run) }
 }
 

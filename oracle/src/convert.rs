@@ -86,7 +86,10 @@ mod tests {
         assert_eq!(to_new(&old, 12 * 72 - 1), refuse(17, 0));
         assert_eq!(to_old(&new, 12 * 64 - 1), refuse(17, 0));
         let switch = &new.body[OPCODES][9 * 72..10 * 72];
-        assert_eq!(switch[50..], [5, 0, 0, 1, 0, 0, 0, 0, 0, 0, 0, 0, 0, 0, 0, 0, 0, 0, 0, 0, 0, 0]);
+        assert_eq!(
+            switch[50..],
+            [5, 0, 0, 1, 0, 0, 0, 0, 0, 0, 0, 0, 0, 0, 0, 0, 0, 0, 0, 0, 0, 0]
+        );
         // 768 is no multiple of 72, and 864 none of 64.
         assert_eq!(to_old(&old, 9_999), refuse(1, 0));
         assert_eq!(to_new(&new, 9_999), refuse(1, 0));

@@ -178,7 +178,13 @@ impl ConvertRecording {
     }
 
     /// The call is refused so.
-    fn refused(&mut self, class: &str, asked: &Asked, number: u64, place: usize) -> Result<(), String> {
+    fn refused(
+        &mut self,
+        class: &str,
+        asked: &Asked,
+        number: u64,
+        place: usize,
+    ) -> Result<(), String> {
         self.says(class, asked, refuse(number, place))
     }
 
@@ -217,7 +223,8 @@ impl ConvertRecording {
     fn names(&mut self) -> Result<(), String> {
         let types = sample::table().body[TYPES].clone();
         let named: Vec<&str> = listed().collect();
-        let near: Vec<String> = named.iter().flat_map(|name| near_of(name)).map(|(_, n)| n).collect();
+        let near: Vec<String> =
+            named.iter().flat_map(|name| near_of(name)).map(|(_, n)| n).collect();
         let near: Vec<&str> = near.iter().map(String::as_str).collect();
         for (k, names) in [&named[..]].into_iter().chain(near.chunks(256)).enumerate() {
             let record = |(k, name): (usize, &&str)| opcode_record(name, 0, &[9, 10, 0][..k % 4]);
@@ -318,7 +325,8 @@ impl ConvertRecording {
 
     /// Row 4.
     fn bad_types(&mut self, base: &Asked) -> Result<(), String> {
-        for (place, record) in [("first", 0), ("middle", 8), ("17th", 16), ("18th", 17), ("last", 18)]
+        for (place, record) in
+            [("first", 0), ("middle", 8), ("17th", 16), ("18th", 17), ("last", 18)]
         {
             let class = format!("a type, {place}");
             for bytes in [&[3, 0, 1][..], &[4, 1, 1], &[1, 2, 1], &[1, 0, 0], &[1, 1, 1, 1]] {
@@ -477,7 +485,11 @@ impl ConvertRecording {
                 if r.once_in(2) {
                     let (mark, count) = (record[40], record[41] as usize);
                     let codes = record[42..42 + count].to_vec();
-                    record.copy_from_slice(&opcode_record(named[r.below(named.len() as u64) as usize], mark, &codes));
+                    record.copy_from_slice(&opcode_record(
+                        named[r.below(named.len() as u64) as usize],
+                        mark,
+                        &codes,
+                    ));
                 }
             }
             let [opcodes, types, ..] = &files.body;

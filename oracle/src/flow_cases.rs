@@ -31,18 +31,8 @@ pub const NAMES_THERE: [&str; 12] = [
 ];
 
 /// The pool of the chosen functions.
-pub const POOL: [Option<i32>; 10] = [
-    Some(1),
-    Some(4),
-    None,
-    Some(-4),
-    Some(5),
-    Some(10),
-    Some(14),
-    Some(0),
-    Some(2),
-    Some(7),
-];
+pub const POOL: [Option<i32>; 10] =
+    [Some(1), Some(4), None, Some(-4), Some(5), Some(10), Some(14), Some(0), Some(2), Some(7)];
 
 /// An opcode of a chosen table, and the numbers that its operands have.
 #[derive(Clone)]
@@ -392,7 +382,10 @@ mod tests {
         // Distance 2 leads to Return, and back to LdaZero.
         for name in ["Test", "Return", "JumpLoop", "SwitchOnSmiNoFeedback", "JumpConstant"] {
             let [target, table, line, walk] = said(name, &[11], [2, 0, 0, 0], &[0x0c, 2]);
-            assert_eq!([&*target, &*table, &*line, &*walk], ["6", "nothing", " [2] (jscd @ 6)", closed]);
+            assert_eq!(
+                [&*target, &*table, &*line, &*walk],
+                ["6", "nothing", " [2] (jscd @ 6)", closed]
+            );
             let [target, _, line, walk] = said(name, &[11], [4, 0, 0, 0], &[0x0c, 2]);
             assert_eq!([&*target, &*line, &*walk], ["2", " [2] (jscd @ 2)", closed]);
             let [target, _, line, walk] = said(name, &[11], [0, 1, 7, 1], &[0x0c, 2]);
@@ -401,7 +394,10 @@ mod tests {
             assert_eq!([&*target, &*line, &*walk], ["nothing", " [1]", closed]);
             // Element 4 is 5: behind the Return.
             let [target, _, line, walk] = said(name, &[10], [3, 1, 0, 0], &[0x0c, 4]);
-            assert_eq!([&*target, &*line, &*walk], ["9", " [4] (jscd @ 9)", "leaves steps 5 from 4"]);
+            assert_eq!(
+                [&*target, &*line, &*walk],
+                ["9", " [4] (jscd @ 9)", "leaves steps 5 from 4"]
+            );
             // No such operand.
             let [target, _, line, walk] = said(name, &[10], [3, 1, 1, 0], &[0x0c, 4]);
             assert_eq!([&*target, &*line, &*walk], ["nothing", " [4]", "leaves steps 5 from 4"]);

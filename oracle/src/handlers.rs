@@ -81,9 +81,9 @@ pub fn step(handlers: &[Handler], ins: &Instr) -> Option<usize> {
 mod tests {
     use super::*;
     use crate::ask::{ask_with, Answer, Call, NO_OBJECT, WALK_CODE_WITH, WALK_WITH};
+    use crate::flows::ENDS;
     use crate::records::*;
     use crate::sample;
-    use crate::flows::ENDS;
     use crate::walks::packed;
 
     /// The sample's table, with the other ends from 0c on.

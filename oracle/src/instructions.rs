@@ -123,7 +123,9 @@ pub fn classes(
         (LAST_BYTES, Answer::Each(_)) => vec![format!("codes of {} bytes", code.len() + 1)],
         (_, Answer::End) if code.is_empty() => vec!["end, empty code".into()],
         (_, Answer::End) => vec!["end".into()],
-        (_, Answer::Refused(r)) if r.number <= 10 || r.number == 26 => vec![format!("refused {}", r.number)],
+        (_, Answer::Refused(r)) if r.number <= 10 || r.number == 26 => {
+            vec![format!("refused {}", r.number)]
+        }
         (_, Answer::Refused(r)) if r.number == 20 => vec![match call.args[0] - code.len() as u64 {
             1 => "refused 20, one beyond".into(),
             _ if call.args[0] == u64::MAX => "refused 20, the last number".into(),

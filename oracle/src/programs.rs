@@ -122,7 +122,10 @@ pub fn record() -> Result<Tree, String> {
     tree.insert("jscd_walk/stdout".into(), said_with(&files, &records)?.into_bytes());
     tree.insert("jscd_walk/data/handlers.bin".into(), records);
     let words = ["--handlers", "handlers.bin"].into_iter().chain(NAMES);
-    tree.insert("jscd_walk/args".into(), words.map(|word| format!("{word}\n")).collect::<String>().into_bytes());
+    tree.insert(
+        "jscd_walk/args".into(),
+        words.map(|word| format!("{word}\n")).collect::<String>().into_bytes(),
+    );
     // The conversion is run on the sample's opcodes as document 01 has them, and gives those that jscd_list reads.
     let [opcodes, types, ..] = sample::sample().body;
     tree.insert("jscd_convert/data/old.bin".into(), old_opcodes(&opcodes));
@@ -316,8 +319,11 @@ mod tests {
         assert_eq!(text("jscd_walk/stdout"), "leaves steps 1 from 0\n");
         assert_eq!(said(&walk_files(), WALK).unwrap(), "leaves steps 2 from 4\n");
         let output = text("file_cases/stdout");
-        let said = ["leaves steps 1 from 0", "closed", "closed", "refused 25 at 1", "refused 24 at 0"];
-        for (title, said) in HANDLED.iter().zip(said.into_iter().chain(["refused 24 at 0", "closed"])) {
+        let said =
+            ["leaves steps 1 from 0", "closed", "closed", "refused 25 at 1", "refused 24 at 0"];
+        for (title, said) in
+            HANDLED.iter().zip(said.into_iter().chain(["refused 24 at 0", "closed"]))
+        {
             assert!(output.contains(&format!("\n{title}\n{said}\n")), "{title}");
         }
     }

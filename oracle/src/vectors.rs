@@ -241,7 +241,7 @@ fn arguments(kind: u8, body: &[u8]) -> Option<Call> {
 #[cfg(test)]
 mod tests {
     use super::*;
-    use crate::records::{OPCODE_SIZE, OPCODES};
+    use crate::records::{OPCODES, OPCODE_SIZE};
     use crate::sample;
 
     #[test]
