@@ -70,7 +70,7 @@ fn all_closed() {
     assert_eq!((status, out.as_str()), (0, "sample closed\n"));
 }
 
-/// What the gate runs the two programs on, the walk with its handler: its answer stands in its recorded output.
+/// What the gate runs the two programs on: the walk's answer stands in its recorded output. With a handler it is another.
 #[test]
 fn the_programs_own_functions() {
     let input = input("programs");
@@ -82,12 +82,14 @@ fn the_programs_own_functions() {
             &STORE.map(|file| std::fs::read(data.join(file)).unwrap()),
         );
     }
-    let handlers = "handlers.bin";
-    std::fs::copy(crates("jscd_walk/data").join(handlers), input.join("jscd_walk").join(handlers))
-        .unwrap();
     let answer = std::fs::read_to_string(crates("jscd_walk/stdout")).unwrap();
     let (_, out, _) = call(both(&input));
     assert_eq!(out, format!("jscd_list closed\njscd_walk {answer}"));
+    let handlers = "handlers.bin";
+    std::fs::copy(crates("jscd_walk/data").join(handlers), input.join("jscd_walk").join(handlers))
+        .unwrap();
+    let (_, out, _) = call(both(&input));
+    assert_eq!(out, "jscd_list closed\njscd_walk leaves steps 1 from 0\n");
 }
 
 /// Empty code is closed, and its listing is the header. A length that no run holds is the walk check's 19, and is listed likewise.
