@@ -359,8 +359,11 @@ pub fn wanted_kinds() -> Vec<String> {
 #[cfg(test)]
 mod tests {
     use super::*;
-    use crate::ask::{ask, JUMP_TABLE, JUMP_TARGET, LISTING, WALK};
+    use crate::ask::{ask, Answer, JUMP_TABLE, JUMP_TARGET, LISTING, LONG_LISTING, WALK};
+    use crate::checks;
     use crate::port::{STORE, TABLE};
+    use crate::vectors;
+    use std::collections::BTreeMap;
 
     /// What is said of an instruction behind four LdaZero, by an opcode of this name, operands and flow.
     fn said(name: &str, codes: &[u8], flow: [u8; 4], instruction: &[u8]) -> [String; 4] {
@@ -436,5 +439,70 @@ mod tests {
                 }
             }
         }
+    }
+
+    /// The same flows under other names, where the table is good.
+    fn renamed(files: &Files) -> Option<Files> {
+        checks::table(files, 1 << OPCODES | 1 << TYPES).ok()?;
+        let mut out = files.clone();
+        for (k, record) in out.body[OPCODES].chunks_exact_mut(OPCODE_SIZE).enumerate() {
+            let flow = Opcode(record).flow().unwrap();
+            let codes = record[42..42 + record[41] as usize].to_vec();
+            let other = flow_record(&format!("Z{k}"), record[40], &codes, flow);
+            record.copy_from_slice(&other);
+        }
+        Some(out)
+    }
+
+    /// Under other names the bytes say what the Rust said by the names: targets, tables, entries, walks, and the listings but for the
+    /// names.
+    #[test]
+    fn bytes_say_what_names_said() {
+        let recorded: [(&[u8], usize); 5] = [
+            (include_bytes!("../recorded/jump.vec"), 5_000),
+            (include_bytes!("../recorded/entry.vec"), 1_500),
+            (include_bytes!("../recorded/walk-1.vec"), 2_500),
+            (include_bytes!("../recorded/walk-2.vec"), 5_000),
+            (include_bytes!("../recorded/v8list.vec"), 60),
+        ];
+        for (file, least) in recorded {
+            let mut asked = 0;
+            let all = vectors::each(file, |recorded| {
+                let Some(files) = renamed(recorded.files) else {
+                    return Ok(());
+                };
+                let answer = ask(&files, recorded.code, &recorded.call)?;
+                let said = match (&answer, recorded.call.function) {
+                    (Answer::Found { text, .. }, LISTING | LONG_LISTING) => {
+                        vectors::said(&Answer::Found {
+                            words: Vec::new(),
+                            text: by_aliases(recorded.files, text),
+                        })
+                    }
+                    _ => vectors::said(&answer),
+                };
+                assert!(said == recorded.said, "item at {}: {answer}", recorded.at);
+                asked += 1;
+                Ok(())
+            });
+            assert!(all.is_ok() && asked >= least, "{asked}");
+        }
+    }
+
+    /// A listing with the names of these files in place of their aliases.
+    fn by_aliases(files: &Files, text: &str) -> String {
+        let names = files.all(OPCODES).map(|record| name(Opcode(record).name())).enumerate();
+        let names: BTreeMap<String, String> =
+            names.map(|(k, name)| (format!("Z{k}"), name)).collect();
+        let word = |word: &str| {
+            let (plain, prefix) = word.split_once('.').unwrap_or((word, ""));
+            match names.get(plain) {
+                Some(name) if prefix.is_empty() => name.clone(),
+                Some(name) => format!("{name}.{prefix}"),
+                None => word.to_string(),
+            }
+        };
+        let line = |line: &str| line.split(' ').map(word).collect::<Vec<_>>().join(" ") + "\n";
+        text.lines().map(line).collect()
     }
 }
