@@ -128,13 +128,17 @@ fn converted_in(bytes: &[u8], files: Files, call: &[u8], to: Form, out: &mut [u8
 
 fn is_converted(bytes: &[u8], files: Files, call: &[u8], to: Form, out: &mut [u8]) -> bool {
     let mut place: usize = 7;
+    let status = status_of(bytes, files, to, out, &mut place);
+    is_put(behind(call, 8), status, place, out)
+}
+
+fn status_of(bytes: &[u8], files: Files, to: Form, out: &mut [u8], place: &mut usize) -> u8 {
     let opcodes = file(bytes, files, 0);
     let types = file(bytes, files, 1);
-    let status = match to {
-        Form::New => capi::jscd_to_new(out, opcodes, types, &mut place),
-        Form::Old => capi::jscd_to_old(out, opcodes, types, &mut place),
-    };
-    is_put(behind(call, 8), status, place, out)
+    match to {
+        Form::New => capi::jscd_to_new(out, opcodes, types, place),
+        Form::Old => capi::jscd_to_old(out, opcodes, types, place),
+    }
 }
 
 // Behind what was put, and after a refusal, the buffer is as it was.

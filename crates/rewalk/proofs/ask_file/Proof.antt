@@ -7,10 +7,10 @@ use Rattle.rewalk.proofs.ask_file.Statement.{statement}
 use Rattle.rewalk.proofs.ask_file.Tie as tie
 
 abbrev Inv-loop : tie.InvT-loop
-Inv-loop bytes shows counts₀ files₀ at₀ counts files at = Unit {0}
+Inv-loop bytes shows counts₀ tries₀ files₀ at₀ counts tries files at = Unit {0}
 
 abbrev μ-loop : tie.MeasureT-loop
-μ-loop bytes shows counts₀ files₀ at₀ counts files at = length bytes - at
+μ-loop bytes shows counts₀ tries₀ files₀ at₀ counts tries files at = length bytes - at
 
 no-counts-requires : tie.Need-no-counts-requires Inv-loop μ-loop
 no-counts-requires c κs = search needs
