@@ -16,7 +16,7 @@ use Rattle.convert.specs.Convert.{kindByte, bit, flowBytes, namedFlow, f
 use Rattle.convert.proofs.Records.{joined-length, joined-at, joined-byte}
 
 -- the 50 bytes that both forms have, from a record that lies within its file
-fields-long : (s : List ℕ) (at : ℕ) → at + 50 ≤ length s → length (fields s at) ≡ 50
+pub fields-long : (s : List ℕ) (at : ℕ) → at + 50 ≤ length s → length (fields s at) ≡ 50
 fields-long s at h = length-take-le 50 (drop at s) (rw length-drop (omega arith))
 
 fields-byte : (s : List ℕ) (at k : ℕ) → k < 50 → getD (fields s at) k 0 ≡ getD s (at + k) 0
@@ -27,7 +27,7 @@ module _ (ops : List ℕ) where
   abbrev n : ℕ
   n = length ops / 64
 
-  new-long : (k : ℕ) → k < n → length (newRecord ops k) ≡ 72
+  pub new-long : (k : ℕ) → k < n → length (newRecord ops k) ≡ 72
   new-long k h =
       length-append (fields ops (k * 64) ++ flowBytes (namedFlow ops (k * 64))) (replicate 18 0)
       ∙ omega (arith, length-append (fields ops (k * 64)) (flowBytes (namedFlow ops (k * 64))), fields-long ops (k * 64) (omega arith))
@@ -37,7 +37,7 @@ module _ (ops : List ℕ) where
   unfolding newFile
   new-length = joined-length (newRecord ops) 72 n new-long n 0 (omega arith)
 
-  new-rest : (k : ℕ) → newRecord ops k ≡ fields ops (k * 64) ++ (flowBytes (namedFlow ops (k * 64)) ++ replicate 18 0)
+  pub new-rest : (k : ℕ) → newRecord ops k ≡ fields ops (k * 64) ++ (flowBytes (namedFlow ops (k * 64)) ++ replicate 18 0)
   new-rest k = append-assoc (fields ops (k * 64)) (flowBytes (namedFlow ops (k * 64))) (replicate 18 0)
 
   -- name, mark, count and codes are as they were
@@ -62,7 +62,7 @@ module _ (ops : List ℕ) where
   abbrev m : ℕ
   m = length ops / 72
 
-  old-long : (k : ℕ) → k < m → length (oldRecord ops k) ≡ 64
+  pub old-long : (k : ℕ) → k < m → length (oldRecord ops k) ≡ 64
   old-long k h = length-append (fields ops (k * 72)) (replicate 14 0) ∙ omega (arith, fields-long ops (k * 72) (omega arith))
 
   pub old-length : length (oldFile ops) ≡ m * 64

@@ -3,3 +3,6 @@ pub mod Index
 pub mod Records
 pub mod Laws
 pub mod Convert
+pub mod Fields
+pub mod Same
+pub mod Good
