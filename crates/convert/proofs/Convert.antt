@@ -6,7 +6,7 @@ use mathlib.Core.List.{List, [], _∷_, _++_, append-assoc}
 use native.Mathlib.Omega.{arith}
 use lib.Dec.{eqb}
 use lib.ListN.{length, getD, take, drop, replicate, length-append, length-drop, List·getD-append}
-use lib.Seq.{length-take-le, getD-take, getD-drop, getD-append-add}
+use lib.Seq.{length-take-le, getD-take, getD-drop, getD-append-add, take-at}
 use Rattle.flow.specs.declared.Kind.{Kind}
 use Rattle.flow.specs.declared.Kind.the-variants.{On, Ends, Jumps, Branches, JumpsBack, Switch}
 use Rattle.flow.specs.declared.Flow.{Flow}
@@ -57,6 +57,16 @@ module _ (ops : List ℕ) where
       ∙ ap (λ (x : ℕ). getD (fields ops (op * 64) ++ (flowBytes (namedFlow ops (op * 64)) ++ replicate 18 0)) x 0) e
       ∙ getD-append-add (fields ops (op * 64)) (flowBytes (namedFlow ops (op * 64)) ++ replicate 18 0) i 0
 
+  -- a new record has the fields of the old one
+  pub new-fields : (op : ℕ) → op < n → fields (newFile ops) (op * 72) ≡ fields ops (op * 64)
+  unfolding newFile
+  new-fields op h =
+      let front = fields ops (op * 64) in
+      let rest = flowBytes (namedFlow ops (op * 64)) ++ replicate 18 0 in
+      let after = joined (newRecord ops) (op + 1) (n - (op + 1)) in
+      ap (take 50) (joined-at (newRecord ops) 72 n new-long op h ∙ ap (λ (x : List ℕ). x ++ after) (new-rest op) ∙ append-assoc front rest after)
+      ∙ take-at front (rest ++ after) 50 (fields-long ops (op * 64) (omega arith))
+
 -- ---- and back
 module _ (ops : List ℕ) where
   abbrev m : ℕ
@@ -69,12 +79,13 @@ module _ (ops : List ℕ) where
   unfolding oldFile
   old-length = joined-length (oldRecord ops) 64 m old-long m 0 (omega arith)
 
-  pub old-byte : (op k : ℕ) → op < m → k < 50 → getD (oldFile ops) (op * 64 + k) 0 ≡ getD ops (op * 72 + k) 0
+  pub old-fields : (op : ℕ) → op < m → fields (oldFile ops) (op * 64) ≡ fields ops (op * 72)
   unfolding oldFile
-  old-byte op k h l =
-      joined-byte (oldRecord ops) 64 m old-long op k h (omega arith)
-      ∙ List·getD-append (fields ops (op * 72)) (replicate 14 0) 0 k (omega (arith, fields-long ops (op * 72) (omega arith)))
-      ∙ fields-byte ops (op * 72) k l
+  old-fields op h =
+      let front = fields ops (op * 72) in
+      let after = joined (oldRecord ops) (op + 1) (m - (op + 1)) in
+      ap (take 50) (joined-at (oldRecord ops) 64 m old-long op h ∙ append-assoc front (replicate 14 0) after)
+      ∙ take-at front (replicate 14 0 ++ after) 50 (fields-long ops (op * 72) (omega arith))
 
   -- the bytes behind them are zero
   pub old-zero : (op i : ℕ) → op < m → i < 14 → getD (oldFile ops) (op * 64 + (50 + i)) 0 ≡ getD (replicate 14 0) i 0

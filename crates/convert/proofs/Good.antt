@@ -103,11 +103,11 @@ no-rest size least most bytes h = eqb-true _ _ (and-left _ _ h)
 -- as many of another size
 pub as-many : (size size′ least most bytes bytes′ : ℕ) → wholeRecords size least most bytes ≡ true → bytes′ % size′ ≡ 0 → bytes′ / size′ ≡ bytes / size → wholeRecords size′ least most bytes′ ≡ true
 unfolding wholeRecords
-as-many size size′ least most bytes bytes′ h r e = rw (eq-eqb (bytes′ % size′) 0 r, e) (and-right _ _ h)
+as-many size size′ least most bytes bytes′ h r e = rw (eq-eqb (bytes′ % size′) 0 r, e) (and-right (eqb (bytes % size) 0) _ h)
 
 -- ---- zeros
 pub zeros-byte : (s : List ℕ) (from to : ℕ) → from ≤ to → zeros s from to ≡ true → (k : ℕ) → from ≤ k → k < to → getD s k 0 ≡ 0
-zeros-byte s from to order h k low high = eqb-true _ _ (not-false _ (first-none (notZero s) from (to - from) (omega (arith, eqb-true _ _ h)) k low (omega arith)))
+zeros-byte s from to order h k low high = eqb-true _ _ (not-false _ (first-none (notZero s) from (to - from) (omega (arith, eqb-true (firstFrom (notZero s) from (to - from)) to h)) k low (omega arith)))
 
 pub byte-zeros : (s : List ℕ) (from to : ℕ) → from ≤ to → ((k : ℕ) → from ≤ k → k < to → getD s k 0 ≡ 0) → zeros s from to ≡ true
 byte-zeros s from to order h = eq-eqb _ _ (first-is (notZero s) from (to - from) to order (omega arith) (λ j low l. ap not (eq-eqb _ _ (h j low l))) (λ l. absurd (omega arith)))

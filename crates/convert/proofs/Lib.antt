@@ -6,3 +6,5 @@ pub mod Convert
 pub mod Fields
 pub mod Same
 pub mod Good
+pub mod Round
+pub mod Cases

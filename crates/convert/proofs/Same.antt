@@ -2,13 +2,12 @@
 use Prim.Native.Nat.{ℕ, _+_, _-_, _*_, _/_, _%_, _<_, _≤_}
 use mathlib.Core.Path.{_≡_, refl, sym, ap, _∙_}
 use mathlib.Core.Bool.{Bool, true, false, cond, _||_}
-use mathlib.Core.List.{List, [], _∷_, _++_, append-assoc}
+use mathlib.Core.List.{List, []}
 use mathlib.Core.Logic.{⊎-elim}
 use native.Mathlib.Omega.{arith}
 use borrow.Author.Tests.{ltb-true}
 use lib.Dec.{ltb, eqb}
-use lib.ListN.{length, getD, take, drop, replicate, drop-of-length-le, List·getD-eq-default}
-use lib.Seq.{take-at}
+use lib.ListN.{length, getD, take, drop-of-length-le, List·getD-eq-default}
 use Rattle.laws.specs.Ascii.{ascii}
 use Rattle.laws.specs.Scan.{firstFrom}
 use Rattle.laws.proofs.Tests.{under?}
@@ -20,11 +19,9 @@ use Rattle.flow.specs.declared.Flow.{Flow}
 use Rattle.flow.specs.Flow.{flowKind, flowOf, plain, isReturn}
 use Rattle.flow.specs.Opcodes.{Opcodes, opcodesOf}
 use Rattle.convert.specs.Names.{flowNames, flows, flowNumber, flowBy}
-use Rattle.convert.specs.Records.{joined}
-use Rattle.convert.specs.Convert.{kindByte, bit, flowBytes, namedFlow, fields, newRecord, newFile}
+use Rattle.convert.specs.Convert.{kindByte, bit, namedFlow, fields, newFile}
 use Rattle.convert.specs.Old.{oldByte, oldOpcodes}
-use Rattle.convert.proofs.Records.{joined-at}
-use Rattle.convert.proofs.Convert.{fields-long, new-long, new-length, new-rest, flow-byte}
+use Rattle.convert.proofs.Convert.{new-length, flow-byte, new-fields}
 use Rattle.convert.proofs.Fields.{same-byte, same-named, same-name, same-flow}
 
 kind-back : (k : Kind) → flowKind (kindByte k) ≡ k
@@ -50,17 +47,6 @@ unfolding flowBy flows
 no-flow = refl
 
 module _ (ops : List ℕ) where
-  -- a new record has the fields of the old one
-  pub new-fields : (op : ℕ) → op < length ops / 64 → fields (newFile ops) (op * 72) ≡ fields ops (op * 64)
-  unfolding newFile
-  new-fields op h =
-      let n = length ops / 64 in
-      let front = fields ops (op * 64) in
-      let rest = flowBytes (namedFlow ops (op * 64)) ++ replicate 18 0 in
-      let after = joined (newRecord ops) (op + 1) (n - (op + 1)) in
-      ap (take 50) (joined-at (newRecord ops) 72 n (new-long ops) op h ∙ ap (λ (x : List ℕ). x ++ after) (new-rest ops op) ∙ append-assoc front rest after)
-      ∙ take-at front (rest ++ after) 50 (fields-long ops (op * 64) (omega arith))
-
   -- the flow in a new record is that of its name
   in-flow : (op : ℕ) → op < length ops / 64 → flowOf (newFile ops) op ≡ namedFlow ops (op * 64)
   unfolding flowOf
@@ -75,7 +61,7 @@ module _ (ops : List ℕ) where
   module _ (whole : length ops % 64 ≡ 0) where
     -- the same fields, behind the end too, where there are none
     same-fields : (op : ℕ) → fields (newFile ops) (op * 72) ≡ fields ops (op * 64)
-    same-fields op = ⊎-elim (new-fields op) past (under? op (length ops / 64))
+    same-fields op = ⊎-elim (new-fields ops op) past (under? op (length ops / 64))
       where
         past : length ops / 64 ≤ op → fields (newFile ops) (op * 72) ≡ fields ops (op * 64)
         past l =
