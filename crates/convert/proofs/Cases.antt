@@ -5,7 +5,6 @@ use mathlib.Core.List.{List, [], _∷_}
 use lib.ListN.{take, drop, set}
 use Rattle.laws.specs.Ascii.{ascii}
 use Rattle.laws.specs.Scan.{firstFrom}
-use Rattle.refusal.specs.declared.Check.the-variants.{Ok}
 use Rattle.refusal.specs.Check.{refused, firstBad}
 use Rattle.tables.specs.Names.{isNamed}
 use Rattle.tables.specs.mirror.Rows.{filled, rows}
@@ -16,9 +15,9 @@ use Rattle.convert.specs.Convert.{newFile, otherFlow}
 -- records of 64 bytes with a name and no operands; `JumpIf` is no name of the list
 pub table : List ℕ
 table = rows 64 (
-  ascii "Ldar" ∷ ascii "Return" ∷ ascii "Jump" ∷ ascii "JumpConstant" ∷ ascii "JumpLoop" ∷ ascii "JumpLoopConstant" ∷ ascii "JumpIfTrue"
-  ∷ ascii "JumpIfTrueConstant" ∷ ascii "SwitchOnSmiNoFeedback" ∷ ascii "SwitchOnGeneratorState" ∷ ascii "JumpIf" ∷ []
-)
+    ascii "Ldar" ∷ ascii "Return" ∷ ascii "Jump" ∷ ascii "JumpConstant" ∷ ascii "JumpLoop" ∷ ascii "JumpLoopConstant" ∷ ascii "JumpIfTrue"
+    ∷ ascii "JumpIfTrueConstant" ∷ ascii "SwitchOnSmiNoFeedback" ∷ ascii "SwitchOnGeneratorState" ∷ ascii "JumpIf" ∷ []
+    )
 
 -- bytes 50 to 53 of each of n new records
 pub fours : ℕ → List ℕ → List (List ℕ)

@@ -1,18 +1,12 @@
 -- What a converted file holds, record by record. Assumes nothing.
-use Prim.Native.Nat.{ℕ, zero, suc, _+_, _-_, _*_, _/_, _<_, _≤_}
-use mathlib.Core.Path.{_≡_, refl, sym, ap, _∙_}
-use mathlib.Core.Bool.{Bool, true, false}
-use mathlib.Core.List.{List, [], _∷_, _++_, append-assoc}
+use Prim.Native.Nat.{ℕ, zero, _+_, _-_, _*_, _/_, _<_, _≤_}
+use mathlib.Core.Path.{_≡_, ap, _∙_}
+use mathlib.Core.List.{List, _++_, append-assoc}
 use native.Mathlib.Omega.{arith}
-use lib.Dec.{eqb}
 use lib.ListN.{length, getD, take, drop, replicate, length-append, length-drop, List·getD-append}
 use lib.Seq.{length-take-le, getD-take, getD-drop, getD-append-add, take-at}
-use Rattle.flow.specs.declared.Kind.{Kind}
-use Rattle.flow.specs.declared.Kind.the-variants.{On, Ends, Jumps, Branches, JumpsBack, Switch}
-use Rattle.flow.specs.declared.Flow.{Flow}
-use Rattle.flow.specs.Flow.{flowKind, flowOf}
 use Rattle.convert.specs.Records.{joined}
-use Rattle.convert.specs.Convert.{kindByte, bit, flowBytes, namedFlow, fields, newRecord, newFile, oldRecord, oldFile}
+use Rattle.convert.specs.Convert.{flowBytes, namedFlow, fields, newRecord, newFile, oldRecord, oldFile}
 use Rattle.convert.proofs.Records.{joined-length, joined-at, joined-byte}
 
 -- the 50 bytes that both forms have, from a record that lies within its file

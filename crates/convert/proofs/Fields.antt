@@ -1,22 +1,21 @@
 -- What is read of a record's name, mark, count and codes is read of these 50 bytes, wherever they stand. Assumes nothing.
 use Prim.Native.Nat.{ℕ, _+_, _-_, _<_, _≤_}
 use mathlib.Core.Path.{_≡_, refl, sym, ap, _∙_}
-use mathlib.Core.Bool.{Bool, true, false, not, cond, _&&_}
-use mathlib.Core.List.{List, []}
+use mathlib.Core.Bool.{Bool, true, false, not, _&&_}
+use mathlib.Core.List.{List}
 use mathlib.Core.Logic.{⊎-elim}
 use native.Mathlib.Omega.{arith}
 use native.Mathlib.Nat.{zero-add}
-use borrow.Author.Tests.{lt-ltb, le-ltb, leb-true, lt-leb}
+use borrow.Author.Tests.{lt-ltb, le-ltb, leb-true}
 use lib.Dec.{ltb, leb, eqb}
-use lib.ListN.{length, getD, take, drop}
+use lib.ListN.{getD, drop}
 use lib.Seq.{getD-take, getD-drop, take-take}
 use Rattle.laws.specs.Scan.{firstFrom}
 use Rattle.laws.proofs.Scan.{first-along, first-within}
-use Rattle.laws.proofs.Tests.{either, under?, eqb-along}
+use Rattle.laws.proofs.Tests.{under?, eqb-along}
 use Rattle.tables.specs.Names.{isName, notName, notZero, isZero, nameOk, nameAt, isNamed}
 use Rattle.tables.specs.Records.{noType, zeros, fieldsOk}
 use Rattle.tables.proofs.Rows.{named-same}
-use Rattle.flow.specs.declared.Flow.{Flow}
 use Rattle.convert.specs.Names.{hasFlowName, flowNumber, flowBy}
 use Rattle.convert.specs.Convert.{fields, namedFlow}
 

@@ -1,7 +1,7 @@
 -- Records of w bytes one behind the other: record k stands behind k * w bytes. Assumes nothing.
 use Prim.Native.Nat.{ℕ, zero, suc, _+_, _-_, _*_, _<_, _≤_}
-use mathlib.Core.Path.{_≡_, refl, sym, ap, _∙_}
-use mathlib.Core.List.{List, [], _∷_, _++_}
+use mathlib.Core.Path.{_≡_, sym, ap, _∙_}
+use mathlib.Core.List.{List, [], _++_}
 use native.Mathlib.Omega.{arith}
 use native.Mathlib.Nat.{suc-mul}
 use lib.ListN.{length, getD, take, drop, length-append, drop-of-length-le, take-append-drop, List·getD-append}

@@ -2,19 +2,17 @@
 -- of its form. Assumes nothing.
 use Prim.Native.Nat.{ℕ, zero, suc, _+_, _-_, _*_, _/_, _%_, _<_, _≤_}
 use mathlib.Core.Path.{_≡_, refl, sym, ap, _∙_}
-use mathlib.Core.Bool.{Bool, true, false, cond, not, _&&_}
+use mathlib.Core.Bool.{Bool, true, false, cond, _&&_}
 use mathlib.Core.List.{List, [], _∷_, _++_}
 use native.Mathlib.Omega.{arith}
 use borrow.Author.Tests.{le-leb, leb-true, eq-eqb, eqb-true, not-false}
 use lib.Dec.{leb, eqb}
-use lib.ListN.{length, getD, take, drop, replicate, length-append, length-drop, length-replicate, getD-replicate, drop-of-length-le, take-append-drop}
+use lib.ListN.{length, getD, take, drop, replicate, length-drop, length-replicate, getD-replicate}
 use lib.Seq.{length-take-le, getD-take, getD-drop, getD-append-add, drop-cons, take-add, drop-drop, ext-getD}
-use Rattle.laws.proofs.Tests.{and-left, and-right, and-both}
-use Rattle.refusal.specs.declared.Check.{Check}
+use Rattle.laws.proofs.Tests.{and-left, and-right}
 use Rattle.refusal.specs.declared.Check.the-variants.{Ok}
-use Rattle.refusal.specs.Check.{firstRefusal, firstBad}
+use Rattle.refusal.specs.Check.{firstBad}
 use Rattle.refusal.proofs.Laws.{or-left, or-right}
-use Rattle.text.specs.declared.Written.{Written}
 use Rattle.text.specs.Written.{putText}
 use Rattle.tables.specs.declared.Form.the-variants.{Old, New}
 use Rattle.tables.specs.Records.{typeCount, fieldsOk, flowFits, zeros}
@@ -27,7 +25,7 @@ use Rattle.convert.specs.Names.{flows, flowBy, flowNumber}
 use Rattle.convert.specs.Records.{joined}
 use Rattle.convert.specs.Convert.{kindByte, bit, flowBytes, namedFlow, fields, newRecord, newFile, oldRecord, oldFile, otherFlow, checkBack, toNewCall, toOldCall}
 use Rattle.convert.proofs.Records.{joined-whole}
-use Rattle.convert.proofs.Convert.{fields-long, new-length, new-fields, flow-byte, old-length, old-zero, old-fields}
+use Rattle.convert.proofs.Convert.{new-length, new-fields, flow-byte, old-length, old-zero, old-fields}
 use Rattle.convert.proofs.Fields.{same-name-ok, same-fields, same-flow}
 use Rattle.convert.proofs.Good.{Good, pair-good, good-pair, none-bad, all-good, no-rest, as-many, zeros-byte, byte-zeros}
 
@@ -158,7 +156,7 @@ module _ (ops tys : List ℕ) (ok : checkPair Old ops tys ≡ Ok) where
       back : (k : ℕ) → k < n → take 64 (drop (k * 64) ops) ≡ oldRecord (newFile ops) k
       back k l =
           let z : take 14 (drop 50 (drop (k * 64) ops)) ≡ replicate 14 0 = ap (take 14) (drop-drop 50 (k * 64) ops)
-              ∙ zero-part ops (k * 64 + 50) 14 (omega arith) (λ j low high. zeros-byte ops (k * 64 + 50) (k * 64 + 64) (omega arith) (record-says k l .1) j low (omega arith)) in
+          ∙ zero-part ops (k * 64 + 50) 14 (omega arith) (λ j low high. zeros-byte ops (k * 64 + 50) (k * 64 + 64) (omega arith) (record-says k l .1) j low (omega arith)) in
           take-add 50 14 (drop (k * 64) ops) ∙ ap (λ (x : List ℕ). fields ops (k * 64) ++ x) z ∙ ap (λ (x : List ℕ). x ++ replicate 14 0) (sym (new-fields ops k l))
 
   -- the way back of a converted file answers the file
@@ -239,7 +237,7 @@ module _ (ops tys : List ℕ) (ok : checkBack ops tys ≡ Ok) where
       back k l =
           let s = drop (k * 72) ops in
           let z : take 18 (drop 54 s) ≡ replicate 18 0 = ap (take 18) (drop-drop 54 (k * 72) ops)
-              ∙ zero-part ops (k * 72 + 54) 18 (omega arith) (λ j low high. zeros-byte ops (k * 72 + 54) (k * 72 + 72) (omega arith) (says k l .1) j low (omega arith)) in
+          ∙ zero-part ops (k * 72 + 54) 18 (omega arith) (λ j low high. zeros-byte ops (k * 72 + 54) (k * 72 + 72) (omega arith) (says k l .1) j low (omega arith)) in
           let f : take 4 (drop 50 s) ≡ flowBytes (namedFlow ops (k * 72)) = ap (take 4) (drop-drop 50 (k * 72) ops) ∙ flow-back k l in
           let same = old-fields ops k l in
           take-add 54 18 s ∙ ap (λ (x : List ℕ). x ++ take 18 (drop 54 s)) (take-add 50 4 s) ∙ rw (z, f, same-flow (oldFile ops) ops (k * 64) (k * 72) same, same)

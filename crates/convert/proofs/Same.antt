@@ -1,5 +1,5 @@
 -- 02, Wish 6: "The Rust is matched on converted records": what is read of a converted file is what 01's file says. Assumes nothing.
-use Prim.Native.Nat.{ℕ, _+_, _-_, _*_, _/_, _%_, _<_, _≤_}
+use Prim.Native.Nat.{ℕ, _+_, _*_, _/_, _%_, _<_, _≤_}
 use mathlib.Core.Path.{_≡_, refl, sym, ap, _∙_}
 use mathlib.Core.Bool.{Bool, true, false, cond, _||_}
 use mathlib.Core.List.{List, []}
@@ -15,9 +15,8 @@ use Rattle.tables.specs.Names.{isNamed, nameAt}
 use Rattle.tables.specs.Records.{typeCode}
 use Rattle.flow.specs.declared.Kind.{Kind}
 use Rattle.flow.specs.declared.Kind.the-variants.{On, Ends, Jumps, Branches, JumpsBack, Switch}
-use Rattle.flow.specs.declared.Flow.{Flow}
 use Rattle.flow.specs.Flow.{flowKind, flowOf, plain, isReturn}
-use Rattle.flow.specs.Opcodes.{Opcodes, opcodesOf}
+use Rattle.flow.specs.Opcodes.{opcodesOf}
 use Rattle.convert.specs.Names.{flowNames, flows, flowNumber, flowBy}
 use Rattle.convert.specs.Convert.{kindByte, bit, namedFlow, fields, newFile}
 use Rattle.convert.specs.Old.{oldByte, oldOpcodes}
