@@ -1,22 +1,16 @@
 -- What a converted file holds, record by record. Assumes nothing.
-use Prim.Native.Nat.{ℕ, zero, suc, _+_, _-_, _*_, _/_, _<_, _≤_}
-use mathlib.Core.Path.{_≡_, refl, sym, ap, _∙_}
-use mathlib.Core.Bool.{Bool, true, false}
-use mathlib.Core.List.{List, [], _∷_, _++_, append-assoc}
+use Prim.Native.Nat.{ℕ, zero, _+_, _-_, _*_, _/_, _<_, _≤_}
+use mathlib.Core.Path.{_≡_, ap, _∙_}
+use mathlib.Core.List.{List, _++_, append-assoc}
 use native.Mathlib.Omega.{arith}
-use lib.Dec.{eqb}
 use lib.ListN.{length, getD, take, drop, replicate, length-append, length-drop, List·getD-append}
-use lib.Seq.{length-take-le, getD-take, getD-drop, getD-append-add}
-use Rattle.flow.specs.declared.Kind.{Kind}
-use Rattle.flow.specs.declared.Kind.the-variants.{On, Ends, Jumps, Branches, JumpsBack, Switch}
-use Rattle.flow.specs.declared.Flow.{Flow}
-use Rattle.flow.specs.Flow.{flowKind, flowOf}
+use lib.Seq.{length-take-le, getD-take, getD-drop, getD-append-add, take-at}
 use Rattle.convert.specs.Records.{joined}
-use Rattle.convert.specs.Convert.{kindByte, bit, flowBytes, namedFlow, fields, newRecord, newFile, oldRecord, oldFile}
+use Rattle.convert.specs.Convert.{flowBytes, namedFlow, fields, newRecord, newFile, oldRecord, oldFile}
 use Rattle.convert.proofs.Records.{joined-length, joined-at, joined-byte}
 
 -- the 50 bytes that both forms have, from a record that lies within its file
-fields-long : (s : List ℕ) (at : ℕ) → at + 50 ≤ length s → length (fields s at) ≡ 50
+pub fields-long : (s : List ℕ) (at : ℕ) → at + 50 ≤ length s → length (fields s at) ≡ 50
 fields-long s at h = length-take-le 50 (drop at s) (rw length-drop (omega arith))
 
 fields-byte : (s : List ℕ) (at k : ℕ) → k < 50 → getD (fields s at) k 0 ≡ getD s (at + k) 0
@@ -27,7 +21,7 @@ module _ (ops : List ℕ) where
   abbrev n : ℕ
   n = length ops / 64
 
-  new-long : (k : ℕ) → k < n → length (newRecord ops k) ≡ 72
+  pub new-long : (k : ℕ) → k < n → length (newRecord ops k) ≡ 72
   new-long k h =
       length-append (fields ops (k * 64) ++ flowBytes (namedFlow ops (k * 64))) (replicate 18 0)
       ∙ omega (arith, length-append (fields ops (k * 64)) (flowBytes (namedFlow ops (k * 64))), fields-long ops (k * 64) (omega arith))
@@ -37,7 +31,7 @@ module _ (ops : List ℕ) where
   unfolding newFile
   new-length = joined-length (newRecord ops) 72 n new-long n 0 (omega arith)
 
-  new-rest : (k : ℕ) → newRecord ops k ≡ fields ops (k * 64) ++ (flowBytes (namedFlow ops (k * 64)) ++ replicate 18 0)
+  pub new-rest : (k : ℕ) → newRecord ops k ≡ fields ops (k * 64) ++ (flowBytes (namedFlow ops (k * 64)) ++ replicate 18 0)
   new-rest k = append-assoc (fields ops (k * 64)) (flowBytes (namedFlow ops (k * 64))) (replicate 18 0)
 
   -- name, mark, count and codes are as they were
@@ -57,24 +51,35 @@ module _ (ops : List ℕ) where
       ∙ ap (λ (x : ℕ). getD (fields ops (op * 64) ++ (flowBytes (namedFlow ops (op * 64)) ++ replicate 18 0)) x 0) e
       ∙ getD-append-add (fields ops (op * 64)) (flowBytes (namedFlow ops (op * 64)) ++ replicate 18 0) i 0
 
+  -- a new record has the fields of the old one
+  pub new-fields : (op : ℕ) → op < n → fields (newFile ops) (op * 72) ≡ fields ops (op * 64)
+  unfolding newFile
+  new-fields op h =
+      let front = fields ops (op * 64) in
+      let rest = flowBytes (namedFlow ops (op * 64)) ++ replicate 18 0 in
+      let after = joined (newRecord ops) (op + 1) (n - (op + 1)) in
+      ap (take 50) (joined-at (newRecord ops) 72 n new-long op h ∙ ap (λ (x : List ℕ). x ++ after) (new-rest op) ∙ append-assoc front rest after)
+      ∙ take-at front (rest ++ after) 50 (fields-long ops (op * 64) (omega arith))
+
 -- ---- and back
 module _ (ops : List ℕ) where
   abbrev m : ℕ
   m = length ops / 72
 
-  old-long : (k : ℕ) → k < m → length (oldRecord ops k) ≡ 64
+  pub old-long : (k : ℕ) → k < m → length (oldRecord ops k) ≡ 64
   old-long k h = length-append (fields ops (k * 72)) (replicate 14 0) ∙ omega (arith, fields-long ops (k * 72) (omega arith))
 
   pub old-length : length (oldFile ops) ≡ m * 64
   unfolding oldFile
   old-length = joined-length (oldRecord ops) 64 m old-long m 0 (omega arith)
 
-  pub old-byte : (op k : ℕ) → op < m → k < 50 → getD (oldFile ops) (op * 64 + k) 0 ≡ getD ops (op * 72 + k) 0
+  pub old-fields : (op : ℕ) → op < m → fields (oldFile ops) (op * 64) ≡ fields ops (op * 72)
   unfolding oldFile
-  old-byte op k h l =
-      joined-byte (oldRecord ops) 64 m old-long op k h (omega arith)
-      ∙ List·getD-append (fields ops (op * 72)) (replicate 14 0) 0 k (omega (arith, fields-long ops (op * 72) (omega arith)))
-      ∙ fields-byte ops (op * 72) k l
+  old-fields op h =
+      let front = fields ops (op * 72) in
+      let after = joined (oldRecord ops) (op + 1) (m - (op + 1)) in
+      ap (take 50) (joined-at (oldRecord ops) 64 m old-long op h ∙ append-assoc front (replicate 14 0) after)
+      ∙ take-at front (replicate 14 0 ++ after) 50 (fields-long ops (op * 72) (omega arith))
 
   -- the bytes behind them are zero
   pub old-zero : (op i : ℕ) → op < m → i < 14 → getD (oldFile ops) (op * 64 + (50 + i)) 0 ≡ getD (replicate 14 0) i 0

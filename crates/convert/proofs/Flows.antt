@@ -1,7 +1,6 @@
 -- Laws of the flows by number. Assumes nothing.
 use Prim.Native.Nat.{ℕ, _+_, _<_, _≤_}
 use mathlib.Core.Path.{_≡_}
-use mathlib.Core.List.{List}
 use mathlib.Core.Bool.{false}
 use lib.ListN.{take, drop, replicate, List·getD-eq-default}
 use Rattle.laws.proofs.Runs.{run-at}

@@ -1,11 +1,10 @@
 -- Laws that the functions' proofs cite: how a record is put, and what a search for the first record with another flow says. Assumes nothing.
 use Prim.Native.Nat.{ℕ, _+_, _-_, _<_, _≤_, _^_}
-use mathlib.Core.Path.{_≡_, refl, sym, ap, _∙_}
+use mathlib.Core.Path.{_≡_, refl, _∙_}
 use mathlib.Core.Bool.{Bool, true, false}
 use mathlib.Core.List.{List, [], _∷_, _++_}
-use native.Mathlib.Omega.{arith}
 use borrow.Author.Tests.{le-ltb, lt-leb}
-use lib.ListN.{length}
+use lib.ListN.{length, take, drop}
 use Rattle.laws.specs.Scan.{firstFrom}
 use Rattle.laws.proofs.Scan.{first-here, first-next, first-end}
 use Rattle.refusal.specs.declared.Refusal.{Refusal}
@@ -17,6 +16,7 @@ use Rattle.text.specs.Put.{Put}
 use Rattle.text.specs.Written.{putText}
 use Rattle.text.specs.mirror.Written.{WrittenBy}
 use Rattle.text.proofs.Put.{then}
+use Rattle.convert.specs.Convert.{fields}
 
 -- ---- bytes and records, put one behind the other
 pub four-put : {o o₁ o₂ o₃ o₄ : List ℕ} {p r₁ r₂ r₃ r₄ a b c d : ℕ} → length o ≤ 2 ^ 63
@@ -26,6 +26,10 @@ four-put h w x y z = then h (then h (then h w x) y) z
 pub three-put : {o o₁ o₂ o₃ : List ℕ} {p r₁ r₂ r₃ : ℕ} {a b c : List ℕ} → length o ≤ 2 ^ 63
     → Put o p a o₁ r₁ → Put o₁ r₁ b o₂ r₂ → Put o₂ r₂ c o₃ r₃ → Put o p (a ++ b ++ c) o₃ r₃
 three-put h x y z = then h (then h x y) z
+
+-- the fields of a record, put from the file
+pub fields-put : {o o′ : List ℕ} {p r w : ℕ} (s : List ℕ) (from : ℕ) → Put o p (take w (drop from s)) o′ r → w ≡ 50 → Put o p (fields s from) o′ r
+fields-put s from put e = rw e at put
 
 -- ---- the first bad record, as a loop that has passed the records below k finds it
 module _ (number : ℕ) (bad : ℕ → Bool) (n k : ℕ) (passed : firstFrom bad 0 n ≡ firstFrom bad k (n - k)) where

@@ -3,3 +3,8 @@ pub mod Index
 pub mod Records
 pub mod Laws
 pub mod Convert
+pub mod Fields
+pub mod Same
+pub mod Good
+pub mod Round
+pub mod Cases

@@ -1,11 +1,11 @@
 -- Records of w bytes one behind the other: record k stands behind k * w bytes. Assumes nothing.
 use Prim.Native.Nat.{ℕ, zero, suc, _+_, _-_, _*_, _<_, _≤_}
-use mathlib.Core.Path.{_≡_, refl, sym, ap, _∙_}
-use mathlib.Core.List.{List, [], _∷_, _++_}
+use mathlib.Core.Path.{_≡_, sym, ap, _∙_}
+use mathlib.Core.List.{List, [], _++_}
 use native.Mathlib.Omega.{arith}
 use native.Mathlib.Nat.{suc-mul}
-use lib.ListN.{length, getD, take, drop, length-append, List·getD-append}
-use lib.Seq.{drop-append-add, take-append-seam, getD-drop}
+use lib.ListN.{length, getD, take, drop, length-append, drop-of-length-le, take-append-drop, List·getD-append}
+use lib.Seq.{drop-append-add, drop-drop, getD-drop}
 use Rattle.convert.specs.Records.{joined}
 
 module _ (f : ℕ → List ℕ) (w n : ℕ) (long : (k : ℕ) → k < n → length (f k) ≡ w) where
@@ -46,3 +46,17 @@ joined-next f n k h = let e : n - k ≡ suc (n - (k + 1)) = omega arith in rw e
 pub joined-end : (f : ℕ → List ℕ) (n k : ℕ) → n ≤ k → joined f k (n - k) ≡ []
 unfolding joined
 joined-end f n k h = let e : n - k ≡ 0 = omega arith in rw e
+
+-- a file of n records is these, one behind the other
+module _ (f : ℕ → List ℕ) (w n : ℕ) (s : List ℕ) (whole : length s ≡ n * w) (each : (k : ℕ) → k < n → take w (drop (k * w) s) ≡ f k) where
+  joined-rest : (m k : ℕ) → k + m ≡ n → joined f k m ≡ drop (k * w) s
+  unfolding joined
+  joined-rest zero k e = let p : k ≡ n = omega arith in rw p (sym (drop-of-length-le s {i = n * w} (omega arith)))
+  joined-rest (suc m) k e =
+      let p : (k + 1) * w ≡ k * w + w = omega (arith, suc-mul k w) in
+      ap (λ (x : List ℕ). x ++ joined f (k + 1) m) (sym (each k (omega arith)))
+      ∙ ap (λ (x : List ℕ). take w (drop (k * w) s) ++ x) (joined-rest m (k + 1) (omega arith) ∙ ap (λ (x : ℕ). drop x s) p ∙ sym (drop-drop w (k * w) s))
+      ∙ take-append-drop w (drop (k * w) s)
+
+  pub joined-whole : joined f 0 n ≡ s
+  joined-whole = let z : 0 * w ≡ 0 = omega arith in joined-rest n 0 (omega arith) ∙ rw z

@@ -21,6 +21,9 @@ ghost use Rattle.text.specs.mirror.Written.{WrittenBy};
 ghost use Rattle.tables.specs.Records.{oldSize, opcodeSize, opcodeCount};
 ghost use Rattle.convert.specs.Convert.{kindByte, bit, flowBytes, newRecord, newFile, toNewCall, oldRecord, oldFile, otherFlow, checkBack, toOldCall};
 
+// What records of both forms have: name, mark, count and codes.
+const FIELDS: usize = 50;
+
 // The file with the flows by name, from the start of the buffer on. Rows 1 to 4 and 17; after a refusal the buffer is as it was.
 pub fn to_new(out: &mut [u8], opcodes: &[u8], types: &[u8]) -> Written
     ensures { λ r. ⌜ WrittenAs (toNewCall (now (opcodes .entry)) (now (types .entry)) (now (out .entry))) r (now (out .exit)) ⌝ }
@@ -48,7 +51,7 @@ fn write_new(out: &mut [u8], opcodes: &[u8]) -> Written
 {
     let n = opcodes.len() / OLD_SIZE;
     if n * OPCODE_SIZE <= out.len() {
-        Written::Done(put_new(out, opcodes))
+        Written::Done(put_new(out, opcodes, n))
     } else {
         Written::Refused(Refusal {
             number: refusal::SHORT_OUTPUT,
@@ -57,11 +60,11 @@ fn write_new(out: &mut [u8], opcodes: &[u8]) -> Written
     }
 }
 
-// The records one behind the other.
-fn put_new(out: &mut [u8], opcodes: &[u8]) -> usize
+// The n records one behind the other.
+fn put_new(out: &mut [u8], opcodes: &[u8], n: usize) -> usize
+    requires { ⌜ n ≡ length (now opcodes) / oldSize ⌝ }
     ensures { λ r. ⌜ Put (now (out .entry)) 0 (newFile (now (opcodes .entry))) (now (out .exit)) r ⌝ }
 {
-    let n = opcodes.len() / OLD_SIZE;
     let mut at = 0;
     let mut k = 0;
     while k < n {
@@ -71,13 +74,13 @@ fn put_new(out: &mut [u8], opcodes: &[u8]) -> usize
     at
 }
 
-// Name, mark, count and codes, the flow of the name, and zeros.
+// The fields, the flow of the name, and zeros.
 fn put_new_record(out: &mut [u8], at: usize, opcodes: &[u8], k: usize) -> usize
     requires { ⌜ k < length (now opcodes) / oldSize ⌝ }
     ensures { λ r. ⌜ Put (now (out .entry)) at (newRecord (now (opcodes .entry)) k) (now (out .exit)) r ⌝ }
 {
     let from = k * OLD_SIZE;
-    let to = from + 50;
+    let to = from + FIELDS;
     let p = text::put_bytes(out, at, &opcodes[from..to]);
     let p = put_flow(out, p, names::flow_by(names::flow_number(opcodes, from)));
     text::put_bytes(out, p, &[0; 18])
@@ -164,7 +167,7 @@ fn write_old(out: &mut [u8], opcodes: &[u8]) -> Written
 {
     let n = tables::opcode_count(opcodes);
     if n * OLD_SIZE <= out.len() {
-        Written::Done(put_old(out, opcodes))
+        Written::Done(put_old(out, opcodes, n))
     } else {
         Written::Refused(Refusal {
             number: refusal::SHORT_OUTPUT,
@@ -173,11 +176,11 @@ fn write_old(out: &mut [u8], opcodes: &[u8]) -> Written
     }
 }
 
-// The records one behind the other.
-fn put_old(out: &mut [u8], opcodes: &[u8]) -> usize
+// The n records one behind the other.
+fn put_old(out: &mut [u8], opcodes: &[u8], n: usize) -> usize
+    requires { ⌜ n ≡ opcodeCount (now opcodes) ⌝ }
     ensures { λ r. ⌜ Put (now (out .entry)) 0 (oldFile (now (opcodes .entry))) (now (out .exit)) r ⌝ }
 {
-    let n = tables::opcode_count(opcodes);
     let mut at = 0;
     let mut k = 0;
     while k < n {
@@ -187,13 +190,13 @@ fn put_old(out: &mut [u8], opcodes: &[u8]) -> usize
     at
 }
 
-// Name, mark, count and codes, and zeros.
+// The fields, and zeros.
 fn put_old_record(out: &mut [u8], at: usize, opcodes: &[u8], k: usize) -> usize
     requires { ⌜ k < opcodeCount (now opcodes) ⌝ }
     ensures { λ r. ⌜ Put (now (out .entry)) at (oldRecord (now (opcodes .entry)) k) (now (out .exit)) r ⌝ }
 {
     let from = k * OPCODE_SIZE;
-    let to = from + 50;
+    let to = from + FIELDS;
     let p = text::put_bytes(out, at, &opcodes[from..to]);
     text::put_bytes(out, p, &[0; 14])
 }

@@ -29,7 +29,7 @@ same-length : tie.Need-same-length
 same-length c = search needs
 
 returns : tie.Need-returns
-returns c = 
+returns c =
     rw (← c .before .before .before .before .before .before .before .before .before .before .before .before .before .before .before .before .before .kind-byte .ensures, ← c .before .before .before .before .before .before .before .before .before .before .before .before .bit .ensures, ← c .before .before .before .bit2 .ensures) (four-put (omega (arith, c .before .before .before .before .before .before .before .before .before .before .before .before .before .before .before .before .before .before .before .before .good)) (c .before .before .before .before .before .before .before .before .before .before .before .before .before .before .before .before .put-byte .ensures) (c .before .before .before .before .before .before .before .before .before .before .before .put-byte2 .ensures) (c .before .before .before .before .before .before .before .put-byte3 .ensures) (c .before .before .put-byte4 .ensures))
 
 pub put-flow-spec : {M : Type 1} → statement M

@@ -2,11 +2,10 @@ use Rattle.convert.proofs.Records.{joined-next, joined-end}
 use Rattle.convert.specs.Convert.{newRecord, newFile}
 use Rattle.convert.specs.Records.{joined}
 use Rattle.text.proofs.PutUpTo.{PutUpTo, up-to-none, up-to-more, up-to-all, up-to-kept}
-use lib.ListN.{length}
 use denote.Ref.{now}
 use native.Mathlib.Nat.{sub-zero}
-use mathlib.Core.Path.{_≡_, refl}
-use Prim.Native.Nat.{_+_, _-_, _/_, _≤_}
+use mathlib.Core.Path.{refl}
+use Prim.Native.Nat.{_+_, _-_, _≤_}
 use native.Mathlib.Omega.{arith}
 use borrow.Author.Needs.{needs}
 use Rattle.convert.proofs.put_new.Statement.{statement}
@@ -20,7 +19,9 @@ abbrev μ-loop : tie.MeasureT-loop
 
 loop-holds : tie.Need-loop-holds Inv-loop μ-loop
 unfolding newFile
-loop-holds c = (omega arith, rw sub-zero (up-to-none (now (c .before .before .args .out)) 0 (newFile (now (c .before .before .args .opcodes))) refl))
+loop-holds c =
+    let a = c .before .before .args in
+    (omega arith, rw (sub-zero, c .before .before .pre) (up-to-none (now (a .out)) 0 (newFile (now (a .opcodes))) refl))
 
 put-new-record-requires : tie.Need-put-new-record-requires Inv-loop μ-loop
 put-new-record-requires c κs = search needs
@@ -32,13 +33,19 @@ loop-less : tie.Need-loop-less Inv-loop μ-loop
 loop-less c = search needs
 
 loop-again : tie.Need-loop-again Inv-loop μ-loop
-loop-again c = (omega arith, up-to-more (newRecord (now (c .before .before .before .before .before .before .before .before .args .opcodes)) (c .before .before .before .before .before .loop .k)) (joined (newRecord (now (c .before .before .before .before .before .before .before .before .args .opcodes))) (c .before .before .before .before .before .loop .k + 1) ((length (now (c .before .before .before .before .before .before .before .before .args .opcodes)) / 64) - (c .before .before .before .before .before .loop .k + 1))) (omega (arith, c .before .before .before .before .before .before .before .before .good)) (joined-next (newRecord (now (c .before .before .before .before .before .before .before .before .args .opcodes))) (length (now (c .before .before .before .before .before .before .before .before .args .opcodes)) / 64) (c .before .before .before .before .before .loop .k) (c .before .before .before .before .loop-test .taken)) (c .before .before .before .before .before .loop .inv .1) (c .before .before .put-new-record .ensures))
+loop-again c =
+    let a = c .before .before .before .before .before .before .before .before .args in
+    let l = c .before .before .before .before .before .loop in
+    (omega arith, up-to-more (newRecord (now (a .opcodes)) (l .k)) (joined (newRecord (now (a .opcodes))) (l .k + 1) (a .n - (l .k + 1))) (omega (arith, c .before .before .before .before .before .before .before .before .good)) (joined-next (newRecord (now (a .opcodes))) (a .n) (l .k) (c .before .before .before .before .loop-test .taken)) (l .inv .1) (c .before .before .put-new-record .ensures))
 
 same-length : tie.Need-same-length Inv-loop μ-loop
 same-length c = up-to-kept (c .before .loop .inv .1)
 
 returns : tie.Need-returns Inv-loop μ-loop
-returns c = up-to-all (joined-end (newRecord (now (c .before .before .before .before .args .opcodes))) (length (now (c .before .before .before .before .args .opcodes)) / 64) (c .before .loop .k) (c .loop-test .left)) (c .before .loop .inv .1)
+returns c =
+    let a = c .before .before .before .before .args in
+    let l = c .before .loop in
+    up-to-all (joined-end (newRecord (now (a .opcodes))) (a .n) (l .k) (c .loop-test .left)) (l .inv .1)
 
 pub put-new-spec : {M : Type 1} → statement M
 put-new-spec =

@@ -1,7 +1,7 @@
-use mathlib.Core.Path.{_≡_, sym, ap, _∙_}
 use Prim.Native.Nat.{_+_, _-_, _*_}
+use denote.Ref.{now}
+use Rattle.convert.proofs.Laws.{fields-put, three-put}
 use native.Mathlib.Omega.{arith}
-use Rattle.convert.proofs.Laws.{three-put}
 use borrow.Author.Needs.{needs}
 use Rattle.convert.proofs.put_new_record.Statement.{statement}
 use Rattle.convert.proofs.put_new_record.Tie as tie
@@ -43,10 +43,10 @@ same-length : tie.Need-same-length
 same-length c = search needs
 
 returns : tie.Need-returns
-returns c = 
-    let from = c .before .before .before .before .before .before .before .before .before .before .before .before .before .before .before .before .before .before .args .k * 64 in
-    let e : from + 50 - from ≡ 50 = omega arith in
-    rw (← c .before .before .before .before .before .before .before .before .before .flow-number .ensures, ← c .before .before .before .before .before .before .before .before .flow-by .ensures) (three-put (omega (arith, c .before .before .before .before .before .before .before .before .before .before .before .before .before .before .before .before .before .before .good)) (rw e at (c .before .before .before .before .before .before .before .before .before .before .before .before .before .put-bytes .ensures)) (c .before .before .before .before .before .before .before .put-flow .ensures) (c .before .before .put-bytes2 .ensures))
+returns c =
+    let a = c .before .before .before .before .before .before .before .before .before .before .before .before .before .before .before .before .before .before .args in
+    let from = a .k * 64 in
+    rw (← c .before .before .before .before .before .before .before .before .before .flow-number .ensures, ← c .before .before .before .before .before .before .before .before .flow-by .ensures) (three-put (omega (arith, c .before .before .before .before .before .before .before .before .before .before .before .before .before .before .before .before .before .before .good)) (fields-put {w = from + 50 - from} (now (a .opcodes)) from (c .before .before .before .before .before .before .before .before .before .before .before .before .before .put-bytes .ensures) (omega arith)) (c .before .before .before .before .before .before .before .put-flow .ensures) (c .before .before .put-bytes2 .ensures))
 
 pub put-new-record-spec : {M : Type 1} → statement M
 put-new-record-spec =

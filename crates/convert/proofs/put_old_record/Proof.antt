@@ -1,5 +1,6 @@
-use mathlib.Core.Path.{_≡_}
 use Prim.Native.Nat.{_+_, _-_, _*_}
+use denote.Ref.{now}
+use Rattle.convert.proofs.Laws.{fields-put}
 use native.Mathlib.Omega.{arith}
 use Rattle.text.proofs.Put.{then}
 use borrow.Author.Needs.{needs}
@@ -34,10 +35,10 @@ same-length : tie.Need-same-length
 same-length c = search needs
 
 returns : tie.Need-returns
-returns c = 
-    let from = c .before .before .before .before .before .before .before .before .before .before .before .before .args .k * 72 in
-    let e : from + 50 - from ≡ 50 = omega arith in
-    then (omega (arith, c .before .before .before .before .before .before .before .before .before .before .before .before .good)) (rw e at (c .before .before .before .before .before .before .before .put-bytes .ensures)) (c .before .before .put-bytes2 .ensures)
+returns c =
+    let a = c .before .before .before .before .before .before .before .before .before .before .before .before .args in
+    let from = a .k * 72 in
+    then (omega (arith, c .before .before .before .before .before .before .before .before .before .before .before .before .good)) (fields-put {w = from + 50 - from} (now (a .opcodes)) from (c .before .before .before .before .before .before .before .put-bytes .ensures) (omega arith)) (c .before .before .put-bytes2 .ensures)
 
 pub put-old-record-spec : {M : Type 1} → statement M
 put-old-record-spec =

@@ -18,10 +18,14 @@ same-length : tie.Need-same-length
 same-length c = search needs
 
 returns : tie.Need-returns
-returns c = written-whole (newFile (now (c .before .before .before .before .before .before .before .args .opcodes))) (now (c .before .before .before .before .before .before .before .args .out)) (omega (arith, c .before .before .before .before .before .before .before .good)) (omega (arith, new-length (now (c .before .before .before .before .before .before .before .args .opcodes)), c .before .before .before .before .if1 .taken)) (c .before .before .put-new .ensures)
+returns c =
+    let a = c .before .before .before .before .before .before .before .args in
+    written-whole (newFile (now (a .opcodes))) (now (a .out)) (omega (arith, c .before .before .before .before .before .before .before .good)) (omega (arith, new-length (now (a .opcodes)), c .before .before .before .before .if1 .taken)) (c .before .before .put-new .ensures)
 
 returns-2 : tie.Need-returns-2
-returns-2 c = written-short (newFile (now (c .before .before .before .args .opcodes))) (now (c .before .before .before .args .out)) (omega (arith, new-length (now (c .before .before .before .args .opcodes)), c .if1 .left))
+returns-2 c =
+    let a = c .before .before .before .args in
+    written-short (newFile (now (a .opcodes))) (now (a .out)) (omega (arith, new-length (now (a .opcodes)), c .if1 .left))
 
 pub write-new-spec : {M : Type 1} → statement M
 write-new-spec = tie.close (tie.spec mul-if1 put-new-requires same-length returns returns-2)

@@ -21,10 +21,14 @@ same-length : tie.Need-same-length
 same-length c = search needs
 
 returns : tie.Need-returns
-returns c = written-whole (oldFile (now (c .before .before .before .before .before .before .before .before .args .opcodes))) (now (c .before .before .before .before .before .before .before .before .args .out)) (omega (arith, c .before .before .before .before .before .before .before .before .good)) (omega (arith, old-length (now (c .before .before .before .before .before .before .before .before .args .opcodes)), c .before .before .before .before .if1 .taken, c .before .before .before .before .before .opcode-count .ensures)) (c .before .before .put-old .ensures)
+returns c =
+    let a = c .before .before .before .before .before .before .before .before .args in
+    written-whole (oldFile (now (a .opcodes))) (now (a .out)) (omega (arith, c .before .before .before .before .before .before .before .before .good)) (omega (arith, old-length (now (a .opcodes)), c .before .before .before .before .if1 .taken, c .before .before .before .before .before .opcode-count .ensures)) (c .before .before .put-old .ensures)
 
 returns-2 : tie.Need-returns-2
-returns-2 c = written-short (oldFile (now (c .before .before .before .before .args .opcodes))) (now (c .before .before .before .before .args .out)) (omega (arith, old-length (now (c .before .before .before .before .args .opcodes)), c .if1 .left, c .before .opcode-count .ensures))
+returns-2 c =
+    let a = c .before .before .before .before .args in
+    written-short (oldFile (now (a .opcodes))) (now (a .out)) (omega (arith, old-length (now (a .opcodes)), c .if1 .left, c .before .opcode-count .ensures))
 
 pub write-old-spec : {M : Type 1} → statement M
 write-old-spec =
