@@ -15,6 +15,9 @@ abbrev μ-loop : tie.MeasureT-loop
 no-counts-requires : tie.Need-no-counts-requires Inv-loop μ-loop
 no-counts-requires c κs = search needs
 
+no-tries-requires : tie.Need-no-tries-requires Inv-loop μ-loop
+no-tries-requires c κs = search needs
+
 no-files-requires : tie.Need-no-files-requires Inv-loop μ-loop
 no-files-requires c κs = search needs
 
@@ -30,8 +33,11 @@ files-after-requires c κs = search needs
 counts-after-requires : tie.Need-counts-after-requires Inv-loop μ-loop
 counts-after-requires c κs = search needs
 
+tries-after-requires : tie.Need-tries-after-requires Inv-loop μ-loop
+tries-after-requires c κs = search needs
+
 loop-less : tie.Need-loop-less Inv-loop μ-loop
-loop-less c = omega (arith, c .before .before .item-at .ensures (c .before .before .before .loop-test .taken))
+loop-less c = omega (arith, c .before .before .before .item-at .ensures (c .before .before .before .before .loop-test .taken))
 
 loop-again : tie.Need-loop-again Inv-loop μ-loop
 loop-again c = search needs
@@ -46,11 +52,13 @@ ask-file-spec =
     Inv-loop
     μ-loop
     no-counts-requires
+    no-tries-requires
     no-files-requires
     loop-holds
     item-at-requires
     files-after-requires
     counts-after-requires
+    tries-after-requires
     loop-less
     loop-again
     returns)
