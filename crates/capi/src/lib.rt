@@ -58,12 +58,7 @@ pub extern "C" fn jscd_list(
 
 // An opcode file of 01's form with its flows filled in by name, into `out`: its length in `place`, or the refusal's place, with `out` as it was.
 #[no_mangle]
-pub extern "C" fn jscd_to_new(
-    out: &mut [u8],
-    opcodes: &[u8],
-    types: &[u8],
-    place: &mut usize,
-) -> u8
+pub extern "C" fn jscd_to_new(out: &mut [u8], opcodes: &[u8], types: &[u8], place: &mut usize) -> u8
     ensures { λ r. ⌜ (r, now (place .exit), now (out .exit)) ≡ bufferTold (toNewCall (now (opcodes .entry)) (now (types .entry)) (now (out .entry))) ⌝ }
 {
     let written = convert::to_new(out, opcodes, types);
@@ -72,12 +67,7 @@ pub extern "C" fn jscd_to_new(
 
 // The way back.
 #[no_mangle]
-pub extern "C" fn jscd_to_old(
-    out: &mut [u8],
-    opcodes: &[u8],
-    types: &[u8],
-    place: &mut usize,
-) -> u8
+pub extern "C" fn jscd_to_old(out: &mut [u8], opcodes: &[u8], types: &[u8], place: &mut usize) -> u8
     ensures { λ r. ⌜ (r, now (place .exit), now (out .exit)) ≡ bufferTold (toOldCall (now (opcodes .entry)) (now (types .entry)) (now (out .entry))) ⌝ }
 {
     let written = convert::to_old(out, opcodes, types);

@@ -64,11 +64,7 @@ fn handled() {
         141,
         151,
     );
-    walk(
-        b"walk: 06 02 0b, the second record ends at 4\n",
-        151,
-        161,
-    );
+    walk(b"walk: 06 02 0b, the second record ends at 4\n", 151, 161);
     walk(b"walk: 06 02 0b, 13 bytes of handlers\n", 161, 171);
     walk(b"walk: 06 02 0b, handlers of 65,537 bytes\n", 171, 181);
     walk(b"walk: 06 02 0b, no handlers in the file\n", 181, 191);
@@ -86,16 +82,8 @@ fn wrong_counts() {
     list(b"list: seven files\n", 1, 8);
     walk(b"walk: nine files\n", 1, 10);
     walk(b"walk: the option alone\n", 121, 122);
-    walk(
-        b"walk: the option, its file and seven files\n",
-        121,
-        130,
-    );
-    list(
-        b"list: the option, its file and eight files\n",
-        121,
-        131,
-    );
+    walk(b"walk: the option, its file and seven files\n", 121, 130);
+    list(b"list: the option, its file and eight files\n", 121, 131);
     io::write_all(STDOUT_FILENO, b"list: all arguments\n");
     files::run(Program::List);
     io::write_all(STDOUT_FILENO, b"walk: all arguments\n");
@@ -105,11 +93,7 @@ fn wrong_counts() {
 fn conversions() {
     convert(b"convert: new\n", 211, 214);
     convert(b"convert: old\n", 214, 217);
-    convert(
-        b"convert: old, a flow that is not its name's\n",
-        217,
-        220,
-    );
+    convert(b"convert: old, a flow that is not its name's\n", 217, 220);
     convert(b"convert: new, records of 72 bytes\n", 220, 223);
     convert(b"convert: no such way\n", 223, 226);
 }

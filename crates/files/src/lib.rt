@@ -217,8 +217,7 @@ fn load_at(first: u16, i: u8, name: &[u8], room: &mut [u8]) -> Loaded {
     load_by(first, i, name, &mut room[at..end])
 }
 
-fn load_by(first: u16, i: u8, name: &[u8], buffer: &mut [u8]) -> Loaded
-{
+fn load_by(first: u16, i: u8, name: &[u8], buffer: &mut [u8]) -> Loaded {
     if first == 0 {
         inputs::load_file(name, buffer)
     } else {

@@ -48,11 +48,30 @@ pub fn walk_object(bytes: &[u8], files: Files, with: bool, marks: &mut [u8]) -> 
     if with {
         let handlers = file(bytes, files, 9);
         return walk::walk_with(
-            marks, opcodes, types, runtime, intrinsic, layout, objects, slots, payload, 0, handlers,
+            marks,
+            opcodes,
+            types,
+            runtime,
+            intrinsic,
+            layout,
+            objects,
+            slots,
+            payload,
+            0,
+            handlers,
         );
     }
     walk::walk(
-        marks, opcodes, types, runtime, intrinsic, layout, objects, slots, payload, 0,
+        marks,
+        opcodes,
+        types,
+        runtime,
+        intrinsic,
+        layout,
+        objects,
+        slots,
+        payload,
+        0,
     )
 }
 
@@ -131,12 +150,34 @@ fn status_of(
     if with {
         let handlers = file(bytes, files, 9);
         return capi::jscd_walk_with(
-            marks, opcodes, types, runtime, intrinsic, layout, objects, slots, payload, 0, handlers,
-            steps, place,
+            marks,
+            opcodes,
+            types,
+            runtime,
+            intrinsic,
+            layout,
+            objects,
+            slots,
+            payload,
+            0,
+            handlers,
+            steps,
+            place,
         );
     }
     capi::jscd_walk(
-        marks, opcodes, types, runtime, intrinsic, layout, objects, slots, payload, 0, steps, place,
+        marks,
+        opcodes,
+        types,
+        runtime,
+        intrinsic,
+        layout,
+        objects,
+        slots,
+        payload,
+        0,
+        steps,
+        place,
     )
 }
 
@@ -237,12 +278,34 @@ fn code_status(
     if with {
         let handlers = file(bytes, files, 9);
         return capi::jscd_walk_code_with(
-            marks, code, opcodes, types, layout, objects, slots, payload, lent, number, handlers,
-            steps, place,
+            marks,
+            code,
+            opcodes,
+            types,
+            layout,
+            objects,
+            slots,
+            payload,
+            lent,
+            number,
+            handlers,
+            steps,
+            place,
         );
     }
     capi::jscd_walk_code(
-        marks, code, opcodes, types, layout, objects, slots, payload, lent, number, steps, place,
+        marks,
+        code,
+        opcodes,
+        types,
+        layout,
+        objects,
+        slots,
+        payload,
+        lent,
+        number,
+        steps,
+        place,
     )
 }
 

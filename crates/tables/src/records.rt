@@ -146,7 +146,11 @@ fn new_fault(s: &[u8], at: usize, known: usize) -> u8
     if !crate::names::all_zero(&s[from..to]) {
         return refusal::BAD_OPCODE;
     }
-    if flow_fits(s, at) { 0 } else { refusal::BAD_FLOW }
+    if flow_fits(s, at) {
+        0
+    } else {
+        refusal::BAD_FLOW
+    }
 }
 
 // Whether each of the four bytes of the flow is one that there is.

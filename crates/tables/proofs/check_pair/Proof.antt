@@ -45,7 +45,7 @@ returns c = rw (← c .before .before .before .before .opcode-size .ensures, sym
 
 returns-2 : tie.Need-returns-2
 unfolding checkPair
-returns-2 c = 
+returns-2 c =
     let e = rw (c .before .before .before .before .before .before .before .before .before .before .opcode-size .ensures) at (c .before .before .before .before .before .before .before .before .before .pair-sizes .ensures) in
     rw (sym e ∙ c .before .before .before .before .before .before .before .enum-told .given .1, c .first-refusal3 .ensures, c .before .check-names2 .ensures, c .before .before .first-refusal2 .ensures, c .before .before .before .check-names .ensures, c .before .before .before .before .first-refusal .ensures, c .before .before .before .before .before .check-types .ensures, c .before .before .before .before .before .before .check-opcodes .ensures, c .before .before .before .before .before .before .before .before .before .before .opcode-size .ensures)
 

@@ -33,7 +33,7 @@ all-zero-requires : tie.Need-all-zero-requires
 all-zero-requires c κs = search needs
 
 returns-2 : tie.Need-returns-2
-returns-2 c = 
+returns-2 c =
     let a = c .before .before .before .before .before .before .args in
     rw (held (c .before .before .before .before .fields-ok .ensures) (c .before .before .before .if1 .left), fell (c .before .all-zero .ensures ∙ zeros-part (now (a .s)) (a .at + 54) (a .at + 72) (c .before .before .before .before .before .before .pre) (omega arith)) (c .if2 .taken))
 
@@ -41,12 +41,12 @@ flow-fits-requires : tie.Need-flow-fits-requires
 flow-fits-requires c κs = search needs
 
 returns-3 : tie.Need-returns-3
-returns-3 c = 
+returns-3 c =
     let a = c .before .before .before .before .before .before .before .before .args in
     rw (held (c .before .before .before .before .before .before .fields-ok .ensures) (c .before .before .before .before .before .if1 .left), held (c .before .before .before .all-zero .ensures ∙ zeros-part (now (a .s)) (a .at + 54) (a .at + 72) (c .before .before .before .before .before .before .before .before .pre) (omega arith)) (c .before .before .if2 .left), sym (c .before .flow-fits .ensures) ∙ c .if3 .taken)
 
 returns-4 : tie.Need-returns-4
-returns-4 c = 
+returns-4 c =
     let a = c .before .before .before .before .before .before .before .before .args in
     rw (held (c .before .before .before .before .before .before .fields-ok .ensures) (c .before .before .before .before .before .if1 .left), held (c .before .before .before .all-zero .ensures ∙ zeros-part (now (a .s)) (a .at + 54) (a .at + 72) (c .before .before .before .before .before .before .before .before .pre) (omega arith)) (c .before .before .if2 .left), sym (c .before .flow-fits .ensures) ∙ c .if3 .left)
 

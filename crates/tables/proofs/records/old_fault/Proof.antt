@@ -33,12 +33,12 @@ all-zero-requires : tie.Need-all-zero-requires
 all-zero-requires c κs = search needs
 
 returns-2 : tie.Need-returns-2
-returns-2 c = 
+returns-2 c =
     let a = c .before .before .before .before .before .before .args in
     rw (held (c .before .before .before .before .fields-ok .ensures) (c .before .before .before .if1 .left), sym (c .before .all-zero .ensures ∙ zeros-part (now (a .s)) (a .at + 50) (a .at + 64) (c .before .before .before .before .before .before .pre) (omega arith)) ∙ c .if2 .taken)
 
 returns-3 : tie.Need-returns-3
-returns-3 c = 
+returns-3 c =
     let a = c .before .before .before .before .before .before .args in
     rw (held (c .before .before .before .before .fields-ok .ensures) (c .before .before .before .if1 .left), sym (c .before .all-zero .ensures ∙ zeros-part (now (a .s)) (a .at + 50) (a .at + 64) (c .before .before .before .before .before .before .pre) (omega arith)) ∙ c .if2 .left)
 

@@ -10,12 +10,12 @@ enum-told : tie.Need-enum-told
 enum-told c = search needs
 
 mul-old-fault : tie.Need-mul-old-fault
-mul-old-fault c = 
+mul-old-fault c =
     let room = record-room (length (now (c .before .before .before .args .opcodes))) 64 (c .before .before .before .args .op) (rw (c .enum-told .given .1) at (c .before .before .before .pre)) in
     omega (arith, room)
 
 old-fault-requires : tie.Need-old-fault-requires
-old-fault-requires c κs = 
+old-fault-requires c κs =
     let room = record-room (length (now (c .before .before .before .args .opcodes))) 64 (c .before .before .before .args .op) (rw (c .enum-told .given .1) at (c .before .before .before .pre)) in
     room
 
@@ -23,12 +23,12 @@ enum-told-2 : tie.Need-enum-told-2
 enum-told-2 c = search needs
 
 mul-new-fault : tie.Need-mul-new-fault
-mul-new-fault c = 
+mul-new-fault c =
     let room = record-room (length (now (c .before .before .before .args .opcodes))) 72 (c .before .before .before .args .op) (rw (c .enum-told2 .given .1) at (c .before .before .before .pre)) in
     omega (arith, room)
 
 new-fault-requires : tie.Need-new-fault-requires
-new-fault-requires c κs = 
+new-fault-requires c κs =
     let room = record-room (length (now (c .before .before .before .args .opcodes))) 72 (c .before .before .before .args .op) (rw (c .enum-told2 .given .1) at (c .before .before .before .pre)) in
     room
 
