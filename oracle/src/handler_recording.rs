@@ -594,9 +594,11 @@ fn instruction(files: &Files, name: &str, scale: usize) -> Vec<u8> {
 #[cfg(test)]
 mod tests {
     use super::*;
+    use crate::ask::{ask_with, Answer};
     use crate::handler_classes::wanted;
     use crate::recording::SEED;
     use crate::vectors;
+    use crate::walks::Outcome;
 
     /// The file in recorded/ is what the seed gives, and every class has a case.
     #[test]
@@ -620,5 +622,40 @@ mod tests {
             Ok(())
         });
         assert!(calls.unwrap() > 5_000);
+    }
+
+    /// What rewalk says of the functions with handlers in a file, from our own marks: as many of them are closed, and as many handlers reached, here.
+    #[test]
+    fn tries_are_as_many() {
+        let stdout = include_str!("../../crates/rewalk/stdout");
+        for (name, recorded) in [
+            ("walk-handlers.vec", &include_bytes!("../recorded/walk-handlers.vec")[..]),
+            ("walk-tries.vec", &include_bytes!("../recorded/walk-tries.vec")[..]),
+            ("walk-tries-v8.vec", &include_bytes!("../recorded/walk-tries-v8.vec")[..]),
+        ] {
+            let (mut functions, mut closed, mut handlers, mut reached) = (0, 0, 0, 0);
+            vectors::each(recorded, |recorded| {
+                if recorded.call.function != WALK_WITH {
+                    return Ok(());
+                }
+                functions += 1;
+                handlers += recorded.handlers.len() / 12;
+                let call = Call::new(WALK_WITH, &[65_536]);
+                let answer = ask_with(recorded.files, &[], recorded.handlers, &call)?;
+                let Answer::Walked(walked) = answer else { return Ok(()) };
+                closed += usize::from(matches!(walked.outcome, Outcome::Closed));
+                let to = |record: &[u8]| u32::from_le_bytes(record[8..].try_into().unwrap());
+                let marked = |record: &&[u8]| walked.marks.get(to(record) as usize) == Some(&true);
+                reached += recorded.handlers.chunks_exact(12).filter(marked).count();
+                Ok(())
+            })
+            .unwrap();
+            let said = format!(
+                "tries: {functions} functions, {closed} closed; {handlers} handlers, {reached} reached"
+            );
+            let lines: Vec<&str> =
+                stdout.lines().skip_while(|line| *line != name).take(10).collect();
+            assert!(lines.contains(&said.as_str()), "{name}: {said}");
+        }
     }
 }
