@@ -1,6 +1,6 @@
 /* Lists the function whose eight record files are in a folder, checks its walks, and by their tables decodes the first instruction of a small
    code, writes it again and with another number, and finds the target of a jump and the walks of another, for which no object is lent; then
-   the walks of code that is empty, and walks that an exception handler takes further.
+   the walks of code that is empty, and walks that an exception handler takes further. At last the opcode records go into the 64-byte form and back.
      cc -Icapi/include capi/example.c target/staticlib/libcapi.a -o target/example && target/example crates/jscd_list/data */
 #include "jscd.h"
 #include <stdio.h>
@@ -118,5 +118,18 @@ int main(int argc, char **argv) {
                             f[3].length, f[4].bytes, f[4].length, f[5].bytes, f[5].length, f[6].bytes, f[6].length, f[7].bytes,
                             f[7].length, 0, handlers, sizeof handlers, &steps, &place);
     print_walked("the function's: ", answer, steps, place);
+
+    /* 64-byte records, as document 01 has them, and 72-byte records again. A table whose bytes 50 to 53 are not those of its names has no 64-byte form. */
+    static uint8_t again[MOST];
+    answer = jscd_to_old(out, sizeof out, f[0].bytes, f[0].length, f[1].bytes, f[1].length, &place);
+    if (answer != JSCD_DONE) {
+        printf("no 64-byte records: refused %d at %zu\n", answer, place);
+        return 0;
+    }
+    size_t old = place;
+    answer = jscd_to_new(again, sizeof again, out, old, f[1].bytes, f[1].length, &place);
+    if (answer == JSCD_DONE)
+        printf("opcodes in %zu bytes, and in %zu again: %s\n", old, place,
+               place == f[0].length && !memcmp(again, f[0].bytes, place) ? "the same" : "others");
     return 0;
 }

@@ -19,12 +19,24 @@
 extern "C" {
 #endif
 
-/* Answers: JSCD_DONE, JSCD_END, JSCD_LEAVES, or the number of a refusal, 1 to 25 (README.md, "Refusals"). */
+/* Answers: JSCD_DONE, JSCD_END, JSCD_LEAVES, or the number of a refusal, 1 to 27 (README.md, "Refusals"). */
 #define JSCD_DONE 0
 #define JSCD_LEAVES 254
 #define JSCD_END 255
 
-/* The listing of a BytecodeArray from the start of `out` on. The eight record files are those of document 01, in its order.
+/* Opcode records, in every call but jscd_to_new, have 72 bytes (JSCD_OPCODE_SIZE): the first 50 are those of document 01, bytes 50 to 53 say what the
+   opcode does, and bytes 54 to 71 are zero, else the record is refused with 3. Targets, entries and walks are by these bytes, not by names; only the step
+   into an exception handler is also by name (jscd_walk_with).
+   50  flow: 0 straight on, 1 ends, 2 jumps, 3 jumps or goes on, 4 jumps back, 5 switch
+   51  1 where the distance comes from the pool, else 0
+   52  the first decoded operand that is used, 0 to 7
+   53  1 where a switch has a case base, else 0
+   A byte with another number is refused with 26, whatever the flow; the place is the record's number, and 3 of the same record comes first. */
+#define JSCD_OPCODE_SIZE 72
+#define JSCD_OLD_OPCODE_SIZE 64
+
+/* The listing of a BytecodeArray from the start of `out` on. The eight record files are those of document 01, in its order, with opcode records as
+   above.
    JSCD_DONE: *place is the listing's length. A refusal: *place is its place, and `out` is as it was. */
 uint8_t jscd_list(uint8_t *out, size_t out_len,
                   const uint8_t *opcodes, size_t opcodes_len,
@@ -58,8 +70,8 @@ uint8_t jscd_walk(uint8_t *marks, size_t marks_len,
 
 /* The same walks with exception handlers: `handlers` has records of 12 bytes, up to 4,096, each of three 4-byte numbers, little-endian: start, end,
    handler offset. From an instruction whose offset (its prefix's, where it has one) is at least start and below end a walk may also go to the handler:
-   to that of the last record that holds the offset. Throw, ReThrow and Abort, which else end a walk, have this step too; Return and
-   SuspendGenerator have not. It is judged as a jump: it leaves where no instruction starts at the handler offset, which is not tested otherwise.
+   to that of the last record that holds the offset. An instruction that else ends a walk, as Throw, ReThrow and Abort do, has this step too; Return and
+   SuspendGenerator have not, by their names, whatever their flow. It is judged as a jump: it leaves where no instruction starts at the handler offset, which is not tested otherwise.
    The answer and the marks are told as by jscd_walk, over these walks; with no bytes of handlers it is jscd_walk. Two refusals more, behind 18:
    24  handlers_len is not that of whole records, or of more than 4,096; *place is 0
    25  a record's start is not below its end, or its end is beyond the code; *place is the lowest such record's number. Empty code has every end
@@ -167,7 +179,7 @@ uint8_t jscd_decode(const uint8_t *opcodes, size_t opcodes_len,
 /* The bytes of one instruction from the start of `out` on. `numbers` has it as jscd_decode tells it; numbers[JSCD_ENDS] and operands behind the
    count are not read. A register list writes its own count.
    JSCD_DONE: *place is how many bytes were written, and the rest of `out` is as it was. A refusal: *place is its place, and `out` is as it was.
-   Beside those of the table, 1 to 5, a refusal is, in this order and at place 0:
+   Beside those of the table, 1 to 5 and 26, a refusal is, in this order and at place 0:
    21  the scale is not 1, 2 or 4, or the table has no prefix opcode for it
    22  no such opcode; or, at scale 1, a prefix opcode
    23  another number or kind of operands than the opcode has, or one that would not read back as it is at its width
@@ -177,6 +189,27 @@ uint8_t jscd_write(uint8_t *out, size_t out_len,
                    const uint8_t *types, size_t types_len,
                    const uint8_t *layout, size_t layout_len,
                    const uint64_t numbers[JSCD_NUMBERS], size_t *place);
+
+/* Opcode records of 72 bytes from document 01's of 64, from the start of `out` on: the first 50 bytes of each as they are, and bytes 50 to 53 that its
+   name stands for in document 01:
+   1 0 0 0  Return, SuspendGenerator, Throw, ReThrow, Abort
+   2 0 0 0  Jump; 3 0 0 0 the conditional jumps that have a target; 4 0 0 0 JumpLoop; of those whose name ends in Constant byte 51 is 1
+   5 0 0 1  SwitchOnSmiNoFeedback
+   5 0 1 0  SwitchOnGeneratorState
+   0 0 0 0  every other name
+   JSCD_DONE: *place is how many bytes were written, and the rest of `out` is as it was. A refusal: *place is its place, and `out` is as it was.
+   Refusals are 1 to 4, of these two files, with opcode records of 64 bytes; then 17. */
+uint8_t jscd_to_new(uint8_t *out, size_t out_len,
+                    const uint8_t *opcodes, size_t opcodes_len,
+                    const uint8_t *types, size_t types_len, size_t *place);
+
+/* The way back, told alike: opcode records of 64 bytes from those of 72. What jscd_to_new made gives back the bytes that it was made of.
+   Refusals are 1 to 4 and 26, of these two files; then
+   27  bytes 50 to 53 of a record are not those that its name stands for; *place is the lowest such record's number
+   17  `out` is too short */
+uint8_t jscd_to_old(uint8_t *out, size_t out_len,
+                    const uint8_t *opcodes, size_t opcodes_len,
+                    const uint8_t *types, size_t types_len, size_t *place);
 
 #ifdef __cplusplus
 }

@@ -22,7 +22,11 @@ impl fmt::Display for Refusal {
 
 impl std::error::Error for Refusal {}
 
-/// The eight record files, in document 01's order.
+/// Bytes of an opcode record; `to_new` makes such records from document 01's, which have 64.
+pub const OPCODE_SIZE: usize = 72;
+pub const OLD_OPCODE_SIZE: usize = 64;
+
+/// The eight record files, in document 01's order. Opcode records have 72 bytes, here and wherever opcodes are lent.
 #[derive(Debug, Clone, Copy)]
 pub struct Files<'a> {
     pub opcodes: &'a [u8],
@@ -465,6 +469,59 @@ pub fn write(
     }
 }
 
+/// Opcode records of 72 bytes, as every other function takes them, from document 01's of 64, into `out`: how many bytes. What is behind these, and after a
+/// refusal all of `out`, is as it was.
+pub fn to_new(opcodes: &[u8], types: &[u8], out: &mut [u8]) -> Result<usize, Refusal> {
+    let mut place = 0;
+    // Safety: as in `list`.
+    let number = unsafe {
+        jscd_to_new(
+            out.as_mut_ptr(),
+            out.len(),
+            opcodes.as_ptr(),
+            opcodes.len(),
+            types.as_ptr(),
+            types.len(),
+            &mut place,
+        )
+    };
+    match number {
+        DONE => Ok(place),
+        _ => Err(Refusal { number, place }),
+    }
+}
+
+/// The way back, into records of 64 bytes; 27 where a record's name stands for other bytes 50 to 53.
+pub fn to_old(opcodes: &[u8], types: &[u8], out: &mut [u8]) -> Result<usize, Refusal> {
+    let mut place = 0;
+    // Safety: as in `list`.
+    let number = unsafe {
+        jscd_to_old(
+            out.as_mut_ptr(),
+            out.len(),
+            opcodes.as_ptr(),
+            opcodes.len(),
+            types.as_ptr(),
+            types.len(),
+            &mut place,
+        )
+    };
+    match number {
+        DONE => Ok(place),
+        _ => Err(Refusal { number, place }),
+    }
+}
+
+/// Whether opcodes are a good file of 64-byte records, which `to_new` would convert: with no room it then says 17. Such a file is never a good one of
+/// 72-byte records: where there is a second record its name begins among bytes that must be zero.
+pub fn is_old(opcodes: &[u8], types: &[u8]) -> bool {
+    to_new(opcodes, types, &mut []) == Err(Refusal { number: 17, place: 0 })
+}
+
+/// What to do about a file of which `is_old` is true, behind its name.
+pub const OLD_RECORDS: &str =
+    "has records of 64 bytes: jscd_convert new OPCODES TYPES makes records of 72";
+
 const DONE: u8 = 0;
 const END: u8 = 255;
 const LEAVES: u8 = 254;
@@ -664,6 +721,26 @@ extern "C" {
         layout: *const u8,
         layout_len: usize,
         numbers: *const [u64; NUMBERS],
+        place: *mut usize,
+    ) -> u8;
+
+    fn jscd_to_new(
+        out: *mut u8,
+        out_len: usize,
+        opcodes: *const u8,
+        opcodes_len: usize,
+        types: *const u8,
+        types_len: usize,
+        place: *mut usize,
+    ) -> u8;
+
+    fn jscd_to_old(
+        out: *mut u8,
+        out_len: usize,
+        opcodes: *const u8,
+        opcodes_len: usize,
+        types: *const u8,
+        types_len: usize,
         place: *mut usize,
     ) -> u8;
 }

@@ -1,7 +1,9 @@
 //! The wrapper on document 01's sample, whose files are in the listing program's data folder.
 
-use jscd_capi::{decode, entry, list, target, walk, walk_code, walk_code_with, walk_with, write};
+use jscd_capi::{decode, entry, is_old, list, target, to_new, to_old};
+use jscd_capi::{walk, walk_code, walk_code_with, walk_with, write};
 use jscd_capi::{Entry, Files, Given, Instr, Lent, Operand, Refusal, Target, Walked};
+use jscd_capi::{OLD_OPCODE_SIZE, OPCODE_SIZE};
 use std::path::Path;
 
 fn file(name: &str) -> Vec<u8> {
@@ -316,13 +318,17 @@ fn handlers(records: &[[u32; 3]]) -> Vec<u8> {
     records.iter().flatten().flat_map(|number| number.to_le_bytes()).collect()
 }
 
+/// The first byte of an opcode record that says what the opcode does.
+const FLOW: usize = 50;
+
 /// The sample's table and, behind it, 0c Throw, 0d ReThrow, 0e Abort and 0f SuspendGenerator, none with an operand.
 fn with_ends() -> Sample {
     let mut sample = Sample::new();
     for name in ["Throw", "ReThrow", "Abort", "SuspendGenerator"] {
         let start = sample.files[0].len();
         sample.files[0].extend(name.as_bytes());
-        sample.files[0].resize(start + 64, 0);
+        sample.files[0].resize(start + OPCODE_SIZE, 0);
+        sample.files[0][start + FLOW] = 1;
     }
     sample
 }
@@ -485,4 +491,166 @@ fn targets() {
     assert_eq!(target(&with, &code, 4), Err(Refusal { number: 20, place: 4 }));
     assert_eq!(target(&with, &[0x08], 0), Err(Refusal { number: 14, place: 1 }));
     assert_eq!(target(&pool.lent(&sample, 2), &code, 0), Err(Refusal { number: 8, place: 0 }));
+}
+
+/// Bytes 50 to 53 of the sample's opcodes, 00 Wide to 0b Return.
+const FLOWS: [[u8; 4]; 12] = [
+    [0, 0, 0, 0],
+    [0, 0, 0, 0],
+    [0, 0, 0, 0],
+    [0, 0, 0, 0],
+    [0, 0, 0, 0],
+    [2, 0, 0, 0],
+    [3, 0, 0, 0],
+    [4, 0, 0, 0],
+    [2, 1, 0, 0],
+    [5, 0, 0, 1],
+    [0, 0, 0, 0],
+    [1, 0, 0, 0],
+];
+
+/// The sample's opcodes in records of 64 bytes, as document 01 has them.
+fn old_opcodes() -> Vec<u8> {
+    let old = |record: &[u8]| [&record[..FLOW], &[0; OLD_OPCODE_SIZE - FLOW]].concat();
+    file("opcodes.bin").chunks_exact(OPCODE_SIZE).flat_map(old).collect()
+}
+
+/// The sample's opcodes with one byte changed in each of some records.
+fn changed(changes: &[(usize, usize, u8)]) -> Vec<u8> {
+    let mut opcodes = file("opcodes.bin");
+    for (record, at, byte) in changes {
+        opcodes[record * OPCODE_SIZE + at] = *byte;
+    }
+    opcodes
+}
+
+/// Wish 6. From 64-byte records to 72, by names, and back; what is behind the bytes is as it was.
+#[test]
+fn records_are_converted() {
+    let (old, new, types) = (old_opcodes(), file("opcodes.bin"), file("types.bin"));
+    assert_eq!((old.len(), new.len()), (12 * 64, 12 * 72));
+    let mut out = [7; 1_000];
+    assert_eq!(to_new(&old, &types, &mut out), Ok(new.len()));
+    assert_eq!(out[..new.len()], new);
+    assert!(out[new.len()..].iter().all(|b| *b == 7));
+    for (k, (record, flow)) in new.chunks_exact(OPCODE_SIZE).zip(FLOWS).enumerate() {
+        assert_eq!(record[FLOW..54], flow, "{k}");
+        assert_eq!((&record[..FLOW], &record[54..]), (&old[64 * k..][..FLOW], &[0; 18][..]));
+    }
+    let mut out = [7; 1_000];
+    assert_eq!(to_old(&new, &types, &mut out), Ok(old.len()));
+    assert_eq!(out[..old.len()], old);
+    assert!(out[old.len()..].iter().all(|b| *b == 7));
+}
+
+/// Wish 6. 26 by each of the four bytes, judged by itself: behind 3 of its own record, before 3 of a later one and before 4; also where the flow uses
+/// no operand. A buffer is as it was.
+#[test]
+fn flow_bytes_that_are_refused() {
+    let types = file("types.bin");
+    let mut out = [7; 1_000];
+    let mut said = |changes: &[(usize, usize, u8)]| {
+        let opcodes = changed(changes);
+        let said = to_old(&opcodes, &types, &mut out);
+        let sample = Sample::new();
+        let files = Files { opcodes: &opcodes, ..sample.lent() };
+        let listed = list(&files, 0, &mut [0; 1_000]).map(|_| 0);
+        assert!(said.is_err() && out == [7; 1_000]);
+        (said.unwrap_err(), listed)
+    };
+    let refused = |number, place| {
+        let refusal = Refusal { number, place };
+        (refusal, Err(refusal))
+    };
+    for record in [0, 6, 11] {
+        for (at, byte) in [(50, 6), (51, 2), (52, 8), (53, 2), (50, 255)] {
+            assert_eq!(said(&[(record, at, byte)]), refused(26, record));
+        }
+        for at in 54..72 {
+            assert_eq!(said(&[(record, at, 1), (record, 50, 6)]), refused(3, record));
+        }
+    }
+    assert_eq!(said(&[(2, 50, 6), (3, 40, 3)]), refused(26, 2));
+    assert_eq!(said(&[(2, 40, 3), (3, 50, 6)]), refused(3, 2));
+    assert_eq!(said(&[(2, 50, 6), (3, 0, b'.')]), refused(2, 3));
+    let mut bad = file("types.bin");
+    bad[28] = 3;
+    let opcodes = changed(&[(11, 50, 6)]);
+    assert_eq!(to_old(&opcodes, &bad, &mut []), Err(Refusal { number: 26, place: 11 }));
+}
+
+/// Wish 6. 27 at the lowest record whose name stands for other bytes, behind 4 and before 17; such a table is good for every other call.
+#[test]
+fn no_way_back() {
+    let types = file("types.bin");
+    let mut bad = types.clone();
+    bad[28] = 3;
+    let refused = |number, place| Err(Refusal { number, place });
+    // LdaZero that ends, a Jump that goes on, another operand, a switch without base, or with its distances from the pool.
+    for change in [(2, 50, 1), (5, 50, 3), (0, 52, 7), (9, 53, 0), (9, 51, 1), (8, 51, 0)] {
+        let opcodes = changed(&[change, (11, 50, 0)]);
+        let mut out = [7; 1_000];
+        assert_eq!(to_old(&opcodes, &types, &mut out), refused(27, change.0));
+        assert_eq!(out, [7; 1_000]);
+        assert_eq!(to_old(&opcodes, &types, &mut []), refused(27, change.0));
+        assert_eq!(to_old(&opcodes, &bad, &mut out), refused(4, 0));
+        let sample = Sample::new();
+        assert!(list(&Files { opcodes: &opcodes, ..sample.lent() }, 0, &mut out).is_ok());
+    }
+}
+
+/// Wish 6. A buffer that is one byte short is 17 and as it was; each way takes its own records alone.
+#[test]
+fn conversions_that_are_refused() {
+    let (old, new, types) = (old_opcodes(), file("opcodes.bin"), file("types.bin"));
+    let refused = |number, place| Err(Refusal { number, place });
+    for (one, opcodes, length) in [(to_new as Conversion, &old, 864), (to_old, &new, 768)] {
+        let mut out = [7; 864];
+        assert_eq!(one(opcodes, &types, &mut out[..length - 1]), refused(17, 0));
+        assert_eq!(one(opcodes, &types, &mut []), refused(17, 0));
+        assert_eq!(one(&opcodes[1..], &types, &mut out), refused(1, 0));
+        assert_eq!(one(&[], &types, &mut out), refused(1, 0));
+        assert_eq!(one(opcodes, &types[1..], &mut out), refused(1, 0));
+        assert_eq!(out, [7; 864]);
+        assert_eq!(one(opcodes, &types, &mut out[..length]), Ok(length));
+    }
+    // 12 records of 64 bytes are no whole records of 72, and 12 of 72 are none of 64.
+    assert_eq!(to_old(&old, &types, &mut [0; 864]), refused(1, 0));
+    assert_eq!(to_new(&new, &types, &mut [0; 864]), refused(1, 0));
+    // Nine of 64 bytes are eight of 72; the second record's name then begins among the first one's zeros.
+    let nine = &old[..9 * 64];
+    assert!(matches!(to_old(nine, &types, &mut [0; 864]), Err(Refusal { number: 2 | 3, .. })));
+    assert!(is_old(&old, &types) && is_old(nine, &types) && is_old(&old[..64], &types));
+    assert!(!is_old(&new, &types) && !is_old(&old[1..], &types) && !is_old(&old, &[]));
+}
+
+type Conversion = fn(&[u8], &[u8], &mut [u8]) -> Result<usize, Refusal>;
+
+/// Wish 6. What an opcode does is in its bytes: LdaZero that ends, a Jump that goes on or may, a Return that goes on, JumpLoop by another operand. By name alone
+/// Return has no step into a handler.
+#[test]
+fn bytes_instead_of_names() {
+    let mut marks = [7; 6];
+    let mut walked = |changes: &[(usize, usize, u8)], code: &[u8], records: &[[u32; 3]]| {
+        let (sample, opcodes) = (Sample::new(), changed(changes));
+        let lent = Lent { opcodes: &opcodes, ..sample.alone() };
+        let records = handlers(records);
+        walk_code_with(&lent, code, Given { handlers: &records }, &mut marks)
+    };
+    assert_eq!(walked(&[], &[0x02], &[]), leaves(1, 0));
+    assert_eq!(walked(&[(2, 50, 1)], &[0x02], &[]), CLOSED);
+    assert_eq!(walked(&[], &[0x05, 0x02, 0x0b], &[]), CLOSED);
+    assert_eq!(walked(&[(5, 50, 0)], &[0x05, 0x09, 0x0b], &[]), CLOSED);
+    assert_eq!(walked(&[(5, 50, 3)], &[0x05, 0x03, 0x02, 0x0b], &[]), CLOSED);
+    assert_eq!(walked(&[(11, 50, 0)], &[0x0b], &[]), leaves(1, 0));
+    // Return goes on, and has no handler step.
+    assert_eq!(walked(&[(11, 50, 0)], &[0x0b, 0x02], &[[0, 1, 9]]), leaves(2, 1));
+    assert_eq!(walked(&[], &[0x02, 0x0b], &[[0, 1, 9]]), leaves(1, 0));
+    let (sample, second) = (Sample::new(), changed(&[(7, 52, 1)]));
+    let lent = Lent { opcodes: &second, ..sample.alone() };
+    assert_eq!(target(&lent, &[0x02, 0x02, 0x07, 0x09, 0x02], 2), Ok(Target::At(0)));
+    assert_eq!(target(&sample.alone(), &[0x02, 0x02, 0x07, 0x02, 0x09], 2), Ok(Target::At(0)));
+    let beyond = changed(&[(7, 52, 7)]);
+    let lent = Lent { opcodes: &beyond, ..sample.alone() };
+    assert_eq!(target(&lent, &[0x07, 0x00, 0x00], 0), Ok(Target::Nothing));
 }

@@ -1,7 +1,7 @@
 //! The folder that is read: `table`, and a folder for each function.
 
 use crate::answer::shown;
-use jscd_capi::Files;
+use jscd_capi::{is_old, Files, OLD_RECORDS, OPCODE_SIZE};
 use std::ffi::OsString;
 use std::fs::File;
 use std::io::{self, Read};
@@ -14,9 +14,9 @@ const TABLE: &str = "table";
 /// O_NONBLOCK: opening a pipe does not wait for a writer.
 pub const NO_WAIT: i32 = 0o4_000;
 
-/// The files of a table, and the most bytes that document 01 lets each have.
+/// The files of a table, and the most bytes that document 01 lets each have; its opcode records are of 72 bytes.
 const TABLE_FILES: [(&str, usize); 5] = [
-    ("opcodes.bin", 256 * 64),
+    ("opcodes.bin", 256 * OPCODE_SIZE),
     ("types.bin", 64 * 32),
     ("runtime.bin", 1_024 * 64),
     ("intrinsic.bin", 256 * 64),
@@ -56,6 +56,10 @@ impl Table {
         let mut table = Table::default();
         for ((name, most), bytes) in TABLE_FILES.iter().zip(&mut table.0) {
             read(&folder.join(name), *most, bytes).map_err(|why| format!("cannot read {why}"))?;
+        }
+        // Every function would be refused for it.
+        if is_old(&table.0[0], &table.0[1]) {
+            return Err(format!("{} {OLD_RECORDS}", shown_path(&folder.join(TABLE_FILES[0].0))));
         }
         Ok(table)
     }

@@ -210,6 +210,7 @@ fn meaning(number: u8) -> &'static str {
         19 => "The code has a length, and no run holds it",
         24 => "handlers.bin is not whole records, or has more than 4,096",
         25 => "In the handler record of that number the start is not below the end, or the end is beyond the code",
+        26 => "In the opcode record of that number one of bytes 50 to 53, which say what the opcode does, is out of its range",
         _ => "No reason is known",
     }
 }

@@ -70,7 +70,7 @@ fn all_closed() {
     assert_eq!((status, out.as_str()), (0, "sample closed\n"));
 }
 
-/// What the gate runs the two programs on, the walk with its handler: its answer stands in its recorded output.
+/// What the gate runs the two programs on: the walk's answer stands in its recorded output. With a handler it is another.
 #[test]
 fn the_programs_own_functions() {
     let input = input("programs");
@@ -82,12 +82,14 @@ fn the_programs_own_functions() {
             &STORE.map(|file| std::fs::read(data.join(file)).unwrap()),
         );
     }
-    let handlers = "handlers.bin";
-    std::fs::copy(crates("jscd_walk/data").join(handlers), input.join("jscd_walk").join(handlers))
-        .unwrap();
     let answer = std::fs::read_to_string(crates("jscd_walk/stdout")).unwrap();
     let (_, out, _) = call(both(&input));
     assert_eq!(out, format!("jscd_list closed\njscd_walk {answer}"));
+    let handlers = "handlers.bin";
+    std::fs::copy(crates("jscd_walk/data").join(handlers), input.join("jscd_walk").join(handlers))
+        .unwrap();
+    let (_, out, _) = call(both(&input));
+    assert_eq!(out, "jscd_list closed\njscd_walk leaves steps 1 from 0\n");
 }
 
 /// Empty code is closed, and its listing is the header. A length that no run holds is the walk check's 19, and is listed likewise.
@@ -155,4 +157,63 @@ fn a_table_that_is_refused() {
     std::fs::write(input.join("table/layout.bin"), "short").unwrap();
     let (status, out, _) = call(both(&input));
     assert_eq!((status, out.as_str()), (1, "sample refused 1 at 0\n"));
+}
+
+/// Wish 6. So is one with an opcode that does what no number of bytes 50 to 53 means.
+#[test]
+fn a_flow_that_is_refused() {
+    let input = input("bad flow");
+    put(&input, "sample", SAMPLE);
+    let file = input.join("table/opcodes.bin");
+    let mut opcodes = std::fs::read(&file).unwrap();
+    opcodes[3 * 72 + 50] = 6;
+    std::fs::write(&file, opcodes).unwrap();
+    let [from, to] = both(&input);
+    let page = to.join("index.html");
+    let (status, out, _) = call([Path::new("--html"), &page, &from, &to]);
+    assert_eq!((status, out.as_str()), (1, "sample refused 26 at 3\n"));
+    let page = std::fs::read_to_string(page).unwrap();
+    assert!(
+        page.contains("<p>In the opcode record of that number one of bytes 50 to 53"),
+        "{page}"
+    );
+}
+
+/// Wish 6. The bytes decide, not the name: a LdaZero that ends.
+#[test]
+fn an_opcode_that_ends() {
+    let input = input("ends");
+    put(&input, "zero", &[0x02]);
+    let file = input.join("table/opcodes.bin");
+    assert_eq!(call(both(&input)).1, "zero leaves steps 1 from 0\n");
+    let mut opcodes = std::fs::read(&file).unwrap();
+    opcodes[2 * 72 + 50] = 1;
+    std::fs::write(&file, opcodes).unwrap();
+    assert_eq!(call(both(&input)).1, "zero closed\n");
+}
+
+/// The sample's opcodes in records of 64 bytes, as an older export wrote them: it is told what to do, and nothing is done. The same records cut are refused like
+/// any other file.
+#[test]
+fn a_table_of_an_older_export() {
+    let input = input("old table");
+    put(&input, "sample", SAMPLE);
+    let file = input.join("table/opcodes.bin");
+    let new = std::fs::read(&file).unwrap();
+    let old: Vec<u8> =
+        new.chunks_exact(72).flat_map(|record| [&record[..50], &[0; 14]].concat()).collect();
+    let [from, to] = both(&input);
+    // Nine records of 64 bytes are as long as eight of 72.
+    for length in [64, 9 * 64, old.len()] {
+        std::fs::write(&file, &old[..length]).unwrap();
+        let told = "has records of 64 bytes: jscd_convert new OPCODES TYPES makes records of 72";
+        let told = format!("batch: {} {told}\n", file.display());
+        assert_eq!(call([&from, &to]), (2, "".into(), told));
+        assert!(!to.exists());
+    }
+    std::fs::write(&file, &old[1..]).unwrap();
+    let (status, out, _) = call([&from, &to]);
+    assert_eq!((status, out.as_str()), (1, "sample refused 1 at 0\n"));
+    std::fs::write(&file, &new).unwrap();
+    assert_eq!(call([&from, &to]).1, "sample closed\n");
 }

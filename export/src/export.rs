@@ -20,6 +20,8 @@ pub const HANDLERS_FILE: &str = "handlers.bin";
 
 /// The programs read files of up to so many bytes.
 pub const MOST_FILE: usize = 65_536;
+/// Bytes of an opcode record.
+const OPCODE: usize = 72;
 const MOST_INDEX: usize = 1_048_576;
 const MOST_OPERANDS: usize = 8;
 const MOST_CODE: usize = 65_536;
@@ -46,6 +48,48 @@ const TYPE_NAMES: [&str; 17] = [
     "Flag16",
     "RuntimeId",
     "IntrinsicId",
+];
+
+/// What an opcode does by its name (document 01), as bytes 50 to 53 of its record: the flow (1 ends, 2 jumps, 3 jumps or goes on, 4 jumps back, 5 switch), 1 where the
+/// distance comes from the pool, the first operand that is used, 1 where a switch has a case base. Any other name is straight on, four zeros.
+const FLOWS: [(&str, [u8; 4]); 37] = [
+    ("Return", [1, 0, 0, 0]),
+    ("SuspendGenerator", [1, 0, 0, 0]),
+    ("Throw", [1, 0, 0, 0]),
+    ("ReThrow", [1, 0, 0, 0]),
+    ("Abort", [1, 0, 0, 0]),
+    ("Jump", [2, 0, 0, 0]),
+    ("JumpConstant", [2, 1, 0, 0]),
+    ("JumpLoop", [4, 0, 0, 0]),
+    ("JumpLoopConstant", [4, 1, 0, 0]),
+    ("JumpIfTrue", [3, 0, 0, 0]),
+    ("JumpIfTrueConstant", [3, 1, 0, 0]),
+    ("JumpIfFalse", [3, 0, 0, 0]),
+    ("JumpIfFalseConstant", [3, 1, 0, 0]),
+    ("JumpIfToBooleanTrue", [3, 0, 0, 0]),
+    ("JumpIfToBooleanTrueConstant", [3, 1, 0, 0]),
+    ("JumpIfToBooleanFalse", [3, 0, 0, 0]),
+    ("JumpIfToBooleanFalseConstant", [3, 1, 0, 0]),
+    ("JumpIfNull", [3, 0, 0, 0]),
+    ("JumpIfNullConstant", [3, 1, 0, 0]),
+    ("JumpIfNotNull", [3, 0, 0, 0]),
+    ("JumpIfNotNullConstant", [3, 1, 0, 0]),
+    ("JumpIfUndefined", [3, 0, 0, 0]),
+    ("JumpIfUndefinedConstant", [3, 1, 0, 0]),
+    ("JumpIfUndefinedOrNull", [3, 0, 0, 0]),
+    ("JumpIfUndefinedOrNullConstant", [3, 1, 0, 0]),
+    ("JumpIfNotUndefined", [3, 0, 0, 0]),
+    ("JumpIfNotUndefinedConstant", [3, 1, 0, 0]),
+    ("JumpIfJSReceiver", [3, 0, 0, 0]),
+    ("JumpIfJSReceiverConstant", [3, 1, 0, 0]),
+    ("JumpIfNotHole", [3, 0, 0, 0]),
+    ("JumpIfNotHoleConstant", [3, 1, 0, 0]),
+    ("JumpIfReferenceError", [3, 0, 0, 0]),
+    ("JumpIfReferenceErrorConstant", [3, 1, 0, 0]),
+    ("JumpIfNotReferenceError", [3, 0, 0, 0]),
+    ("JumpIfNotReferenceErrorConstant", [3, 1, 0, 0]),
+    ("SwitchOnSmiNoFeedback", [5, 0, 0, 1]),
+    ("SwitchOnGeneratorState", [5, 0, 1, 0]),
 ];
 
 /// Layout values 3 to 11.
@@ -106,10 +150,16 @@ fn opcodes(table: &VersionTable, types: &[&str]) -> Result<Vec<u8>, String> {
             // `types_of` has every operand's type; that it is below 64 is tested with the type records.
             rest.push(types.iter().position(|t| t == operand).unwrap_or(0) as u8);
         }
-        rest.resize(64 - 40, 0);
+        rest.resize(50 - 40, 0);
+        rest.extend(flow(&def.name));
+        rest.resize(OPCODE - 40, 0);
         out.extend(rest);
     }
     Ok(out)
+}
+
+fn flow(name: &str) -> [u8; 4] {
+    FLOWS.iter().find(|(known, _)| *known == name).map_or([0; 4], |(_, bytes)| *bytes)
 }
 
 fn type_records(table: &VersionTable, types: &[&str]) -> Result<Vec<u8>, String> {

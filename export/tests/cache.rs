@@ -7,7 +7,7 @@ use jscd_export::version;
 use oracle::ask::{ask, Call, LISTING, WALK};
 use oracle::checks;
 use oracle::port::TABLE;
-use oracle::records::{Files, LAYOUT, NAMES};
+use oracle::records::{Files, LAYOUT, NAMES, OPCODES};
 use std::path::{Path, PathBuf};
 use std::process::{Command, Output};
 
@@ -197,7 +197,8 @@ fn exported_functions() {
     }
 }
 
-/// The table files are those that were made from V8's macros by another hand, where they are beside the repository.
+/// The table files are those that were made from V8's macros by another hand, where they are beside the repository. Opcode records have 64 bytes there: the
+/// first 50 are compared (the others in tests/flows.rs).
 #[test]
 fn table_files() {
     for (data, v8) in [(NODE_18, "10.2"), (NODE_20, "11.3")] {
@@ -206,12 +207,20 @@ fn table_files() {
             return eprintln!("no {}: the table files are not compared", folder.display());
         }
         for (k, body) in cache::read(data).ok().unwrap().all.table.iter().enumerate() {
-            assert!(
-                k <= LAYOUT && *body == std::fs::read(folder.join(NAMES[k])).unwrap(),
-                "{v8} {k}"
-            );
+            let other = std::fs::read(folder.join(NAMES[k])).unwrap();
+            let same = match k {
+                OPCODES => first_50(body, 72) == first_50(&other, 64),
+                _ => k <= LAYOUT && *body == other,
+            };
+            assert!(same, "{v8} {k}");
         }
     }
+}
+
+/// The first 50 bytes of each opcode record; there is nothing behind the last one.
+fn first_50(opcodes: &[u8], size: usize) -> Vec<&[u8]> {
+    assert_eq!(opcodes.len() % size, 0);
+    opcodes.chunks_exact(size).map(|record| &record[..50]).collect()
 }
 
 /// A number as V8's serializer writes it.

@@ -1,7 +1,9 @@
 //! One call of one ported function: its checks by document 01, its answer by the Rust.
 
 use crate::checks::{self, Refusal};
+use crate::convert;
 use crate::decode;
+use crate::flows;
 use crate::port::{self, bit, Port, STORE, TABLE};
 use crate::records::*;
 use crate::switches::{self, Table};
@@ -115,10 +117,11 @@ pub struct Function {
     run: Run,
 }
 
-/// A check is all that is asked, or the Rust runs.
+/// A check is all that is asked, or the Rust runs, or a conversion, which makes its own checks and has nothing of the Rust.
 enum Run {
     Check,
     Rust(fn(&Lent) -> Result<Answer, Refusal>),
+    Convert(fn(&Files, u64) -> Result<Vec<u8>, Refusal>),
 }
 
 /// What a running function is lent.
@@ -166,6 +169,8 @@ pub const SLOT_RECORDS: usize = 25;
 pub const WRITE: usize = 26;
 pub const WALK_WITH: usize = 27;
 pub const WALK_CODE_WITH: usize = 28;
+pub const TO_NEW: usize = 29;
+pub const TO_OLD: usize = 30;
 
 /// An instruction's numbers, and the length of the buffer.
 const TO_WRITE: [&str; writes::NUMBERS + 1] = {
@@ -174,6 +179,13 @@ const TO_WRITE: [&str; writes::NUMBERS + 1] = {
     names[writes::NUMBERS] = "room";
     names
 };
+
+const fn conversion(
+    name: &'static str,
+    run: fn(&Files, u64) -> Result<Vec<u8>, Refusal>,
+) -> Function {
+    Function { name, args: &["room"], lent: convert::LENT, run: Run::Convert(run) }
+}
 
 macro_rules! function {
     ($name:literal, $args:expr, $lent:expr) => {
@@ -185,7 +197,7 @@ macro_rules! function {
 }
 
 /// By number. New functions go behind.
-pub const FUNCTIONS: [Function; 29] = [
+pub const FUNCTIONS: [Function; 31] = [
     function!("listing", [], TABLE | STORE, listing),
     function!("raw_at", ["object", "offset", "length"], READS, raw_at),
     function!("array_len", ["object"], READS, array_len),
@@ -215,6 +227,8 @@ pub const FUNCTIONS: [Function; 29] = [
     function!("write", TO_WRITE, ON_CODE, write_one),
     function!("walk_with", ["marks"], TABLE | STORE, walk_with),
     function!("walk_code_with", ["object", "marks"], ON_CODE, walk_code_with),
+    conversion("to_new", convert::to_new),
+    conversion("to_old", convert::to_old),
 ];
 
 /// Functions whose first argument is the object that lends its pool, or none.
@@ -253,6 +267,10 @@ pub fn ask_with(
     let function = FUNCTIONS.get(call.function).ok_or("no such function")?;
     if call.args.len() != function.args.len() {
         return Err(format!("{} takes {}", function.name, function.args.join(", ")));
+    }
+    if let Run::Convert(run) = function.run {
+        let answer = run(files, call.args[0]).map(Answer::Written);
+        return Ok(answer.unwrap_or_else(Answer::Refused));
     }
     let lent = lent(call);
     if let Err(refusal) = checks::table(files, lent).and_then(|_| store_check(files, lent, call)) {
@@ -412,7 +430,7 @@ fn jump_target(lent: &Lent) -> Result<Answer, Refusal> {
     let (function, Some(ins)) = lent.jump()? else {
         return Ok(Answer::End);
     };
-    let target = lent.port.disassembler().open_jump_target(function, &ins);
+    let target = flows::target(&lent.port, function, &ins);
     Ok(value(target.map(|t| Word::U(t as u64))))
 }
 
@@ -442,7 +460,8 @@ fn jump_entry(lent: &Lent) -> Result<Answer, Refusal> {
     if entries(&ins).is_none() {
         return Ok(Answer::Nothing);
     }
-    let Table { count, count_at, .. } = switches::table(&ins).expect("a table has a count");
+    let table = switches::table(&lent.port, &ins);
+    let Table { count, count_at, .. } = table.expect("a table has a count");
     let k = lent.call.args[2];
     if k >= count as u64 {
         return Ok(words(vec![Word::U(2)]));

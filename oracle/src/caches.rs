@@ -3,6 +3,7 @@
 
 use crate::ask::{Answer, Call, LISTING, LONG_LISTING, LONG_OUTPUT, WALK, WALK_CODE};
 use crate::checks::{self, refuse, PROGRAM_OUTPUT};
+use crate::convert;
 use crate::decode;
 use crate::port::{Port, STORE, TABLE};
 use crate::printed::{self, Printed};
@@ -20,6 +21,7 @@ pub fn exported(folder: &Path) -> Result<Vec<(String, Files)>, String> {
     for file in OPCODES..=LAYOUT {
         table.body[file] = read(&folder.join("table").join(NAMES[file]))?;
     }
+    let table = convert::loaded(table);
     let entries = std::fs::read_dir(folder).map_err(|e| format!("{}: {e}", folder.display()))?;
     let names = entries.filter_map(|e| e.ok()?.file_name().into_string().ok());
     let mut names: Vec<String> = names.filter(|name| name != "table").collect();

@@ -1,7 +1,8 @@
-//! Refusals, written from document 01's table. The Rust has none of these but 11 to 15 (see decode).
+//! Refusals, written from document 01's table and document 02's Wish 6. The Rust has none of these but 11 to 15 (see decode).
 //!
 //! Each number is a row of its own, and a row goes over all lent files before the next begins.
 
+use crate::flows;
 use crate::port::{bit, Port};
 use crate::records::*;
 use crate::switches;
@@ -26,7 +27,7 @@ pub fn refuse<T>(number: u64, place: usize) -> Result<T, Refusal> {
     Err(Refusal { number, place: place as u64 })
 }
 
-fn expect(good: bool, number: u64, place: usize) -> Check {
+pub fn expect(good: bool, number: u64, place: usize) -> Check {
     if good {
         Ok(())
     } else {
@@ -40,23 +41,35 @@ pub const PROGRAM_FILE: usize = 65_536;
 pub const PROGRAM_OUTPUT: usize = 65_536;
 const MOST_SLOTS: u32 = 1_048_576;
 
-// ---- table: 1 to 5 ----
+// ---- table: 1 to 5, and 26 ----
 
 /// Over those of files 0 to 4 that are in `lent`. Opcodes are lent with their types.
 pub fn table(files: &Files, lent: u8) -> Check {
+    rows(files, lent, OPCODE_SIZE)
+}
+
+/// The same where opcode records are those before Wish 6.
+pub fn old_table(files: &Files, lent: u8) -> Check {
+    rows(files, lent, OLD_OPCODE_SIZE)
+}
+
+/// Opcode records have so many bytes. 26 is met record by record with 3, behind it.
+fn rows(files: &Files, lent: u8, opcode: usize) -> Check {
     let is_lent = |file: &usize| lent & bit(*file) != 0;
+    let size = |file: usize| if file == OPCODES { opcode } else { SIZES[file] };
     for file in (OPCODES..=LAYOUT).filter(is_lent) {
-        expect(whole(files, file), 1, 0)?;
+        expect(whole(&files.body[file], file, size(file)), 1, 0)?;
     }
     for file in (OPCODES..LAYOUT).filter(is_lent) {
         let width = [40, 28, 64, 64][file];
-        for (i, record) in files.all(file).enumerate() {
+        for (i, record) in files.body[file].chunks_exact(size(file)).enumerate() {
             expect(name_is_good(&record[..width]), 2, i)?;
         }
     }
     if is_lent(&OPCODES) {
-        for (i, record) in files.all(OPCODES).map(Opcode).enumerate() {
+        for (i, record) in files.body[OPCODES].chunks_exact(opcode).map(Opcode).enumerate() {
             expect(opcode_is_good(&record, files.count(TYPES)), 3, i)?;
+            expect(record.flow().is_none_or(flows::is_good), 26, i)?;
         }
     }
     if is_lent(&TYPES) {
@@ -72,9 +85,10 @@ pub fn table(files: &Files, lent: u8) -> Check {
     Ok(())
 }
 
-fn whole(files: &Files, file: usize) -> bool {
+/// Whether the contents of a file are whole records of this size, and as many as there may be.
+fn whole(body: &[u8], file: usize, size: usize) -> bool {
     let (least, most) = [(1, 256), (17, 64), (0, 1_024), (0, 256), (1, 1)][file];
-    files.body[file].len() % SIZES[file] == 0 && (least..=most).contains(&files.count(file))
+    body.len() % size == 0 && (least..=most).contains(&(body.len() / size))
 }
 
 fn name_is_good(field: &[u8]) -> bool {
@@ -221,9 +235,9 @@ pub fn start(code: &[u8], place: u64) -> Result<usize, Refusal> {
 
 // ---- switch: 16 ----
 
-/// Of a switch under a prefix too (Wish 1). `function` is the object whose pool is meant.
+/// Of a switch under a prefix too (Wish 1), and of each opcode whose flow is 5 (Wish 6). `function` is the object whose pool is meant.
 pub fn switch(port: &Port, function: usize, ins: &Instr) -> Check {
-    match switches::table(ins) {
+    match switches::table(port, ins) {
         Some(table) if port.pool(function).is_some() => {
             expect((0..=MOST_ENTRIES).contains(&table.count), 16, ins.offset)
         }
@@ -267,7 +281,7 @@ mod tests {
     #[test]
     fn sizes() {
         assert_eq!(cut(OPCODES, 0), refuse(1, 0));
-        assert_eq!(cut(OPCODES, 63), refuse(1, 0));
+        assert_eq!(cut(OPCODES, OPCODE_SIZE - 1), refuse(1, 0));
         assert_eq!(cut(TYPES, 16 * 32), refuse(1, 0));
         assert_eq!(cut(LAYOUT, 160), refuse(1, 0));
         assert_eq!(cut(RUNTIME, 64), refuse(2, 0));
@@ -278,9 +292,9 @@ mod tests {
 
     #[test]
     fn names() {
-        assert_eq!(changed(OPCODES, 64, b'.'), refuse(2, 1));
-        assert_eq!(changed(OPCODES, 2 * 64 + 39, b'a'), refuse(2, 2));
-        assert_eq!(changed(OPCODES, 3 * 64, b'7'), Ok(()));
+        assert_eq!(changed(OPCODES, OPCODE_SIZE, b'.'), refuse(2, 1));
+        assert_eq!(changed(OPCODES, 2 * OPCODE_SIZE + 39, b'a'), refuse(2, 2));
+        assert_eq!(changed(OPCODES, 3 * OPCODE_SIZE, b'7'), Ok(()));
         assert_eq!(changed(TYPES, 3 * 32, 0), refuse(2, 3));
         assert_eq!(changed(TYPES, 3 * 32, b'S'), refuse(4, 3));
     }
@@ -296,11 +310,11 @@ mod tests {
 
     #[test]
     fn opcodes_and_types() {
-        assert_eq!(changed(OPCODES, 3 * 64 + 40, 3), refuse(3, 3));
-        assert_eq!(changed(OPCODES, 3 * 64 + 41, 9), refuse(3, 3));
-        assert_eq!(changed(OPCODES, 3 * 64 + 41, 0), refuse(3, 3));
-        assert_eq!(changed(OPCODES, 3 * 64 + 42, 17), refuse(3, 3));
-        assert_eq!(changed(OPCODES, 3 * 64 + 63, 1), refuse(3, 3));
+        assert_eq!(changed(OPCODES, 3 * OPCODE_SIZE + 40, 3), refuse(3, 3));
+        assert_eq!(changed(OPCODES, 3 * OPCODE_SIZE + 41, 9), refuse(3, 3));
+        assert_eq!(changed(OPCODES, 3 * OPCODE_SIZE + 41, 0), refuse(3, 3));
+        assert_eq!(changed(OPCODES, 3 * OPCODE_SIZE + 42, 17), refuse(3, 3));
+        assert_eq!(changed(OPCODES, 3 * OPCODE_SIZE + 71, 1), refuse(3, 3));
         assert_eq!(changed(TYPES, 5 * 32 + 28, 4), refuse(4, 5));
         assert_eq!(changed(TYPES, 5 * 32 + 28, 2), Ok(()));
         assert_eq!(changed(TYPES, 15 * 32 + 28, 4), Ok(()));

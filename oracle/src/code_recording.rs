@@ -5,7 +5,7 @@ use crate::ask::*;
 use crate::checks::MOST_CODE;
 use crate::classes::Classes;
 use crate::codes::{self, Code};
-use crate::faults;
+use crate::faults::{self, Case};
 use crate::instructions::classes;
 use crate::random::Random;
 use crate::records::*;
@@ -34,12 +34,13 @@ pub fn record(seed: u64) -> Result<CodeRecording, String> {
     let files = Files::default();
     let mut out = CodeRecording { writer, classes, files, code: Vec::new() };
     out.short_codes(&mut r)?;
-    out.faults()?;
+    out.faults(faults::tables(), 6)?;
     let pools = codes::pools(&mut r);
     for k in 0..TABLES {
         let files = codes::table(&mut r, &pools, k);
         out.random(&mut r, &files)?;
     }
+    out.faults(faults::flow_tables(), 4)?;
     out.long_codes()?;
     Ok(out)
 }
@@ -83,10 +84,10 @@ impl CodeRecording {
     }
 
     /// Tables to be refused, and tables whose fault lies in names that decoding is not lent.
-    fn faults(&mut self) -> Result<(), String> {
+    fn faults(&mut self, cases: Vec<Case>, each: usize) -> Result<(), String> {
         let small = |files: &Files| files.body.iter().all(|b| b.len() < 2_000);
-        let cases = faults::tables().into_iter().filter(|case| small(&case.files));
-        for case in cases.step_by(6) {
+        let cases = cases.into_iter().filter(|case| small(&case.files));
+        for case in cases.step_by(each) {
             self.set(&case.files, &[4, 0xfa, 4, 1]);
             self.call(&Call::new(DECODE, &[0]))?;
             self.call(&Call::new(RENDER_OPERAND, &[2, 0, 1]))?;

@@ -133,7 +133,7 @@ pub fn table(r: &mut Random, pools: &Pools, k: usize) -> Files {
             let whole = k % 50 == 0;
             let first = if whole { 0 } else { r.below(200) as usize };
             let count = if whole { 256 } else { 1 + r.below(256 - first as u64) as usize };
-            pools.opcodes[64 * first..64 * (first + count)].to_vec()
+            pools.opcodes[OPCODE_SIZE * first..OPCODE_SIZE * (first + count)].to_vec()
         }
         _ => {
             let count = *r.pick(&[1, 2, 3, 4, 5, 6, 8, 10, 12, 13]);

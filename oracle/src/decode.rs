@@ -1,7 +1,7 @@
 //! The Rust's decoder, with its errors as document 01's numbers 11 to 15.
 
 use crate::checks::{self, Refusal};
-use crate::port::Port;
+use crate::port::{Port, NOT_BY_NAME};
 use jscd::bytecode::Instr;
 
 /// The longest instruction: prefix, opcode, eight lists of 8 bytes and a count of 8.
@@ -9,7 +9,16 @@ const LONGEST: usize = 2 + 8 * 16;
 
 /// All instructions of the code.
 pub fn all(port: &Port, code: &[u8]) -> Result<Vec<Instr>, Refusal> {
-    port.decoder(0).decode(code).map_err(|e| refusal(&e, code.len(), 0))
+    let mut listed = port.decoder(0).decode(code).map_err(|e| refusal(&e, code.len(), 0))?;
+    listed.iter_mut().for_each(|ins| own_name(port, ins));
+    Ok(listed)
+}
+
+/// The name as it is in the record.
+fn own_name(port: &Port, ins: &mut Instr) {
+    if !port.flow(ins).named {
+        ins.name.retain(|c| c != NOT_BY_NAME);
+    }
 }
 
 /// The instruction at a place, which is not beyond the end; None at the end.
@@ -25,6 +34,7 @@ pub fn one(port: &Port, code: &[u8], place: usize) -> Result<Option<Instr>, Refu
             assert_eq!(list.len(), 1);
             let mut ins = list.remove(0);
             ins.offset = place;
+            own_name(port, &mut ins);
             return Ok(Some(ins));
         }
     }

@@ -4,7 +4,8 @@ use crate::ask::*;
 use crate::checks::MOST_CODE;
 use crate::classes::Classes;
 use crate::codes;
-use crate::faults;
+use crate::faults::{self, Case};
+use crate::flow_cases;
 use crate::jump_recording::{instruction, scale};
 use crate::lists::{self, SWITCHES};
 use crate::random::Random;
@@ -42,8 +43,16 @@ pub fn record(seed: u64) -> Result<EntryRecording, String> {
             }
         }
     }
+    out.flows()?;
     out.long_codes()?;
     Ok(out)
+}
+
+/// The code that tables and stores at fault are lent with.
+const FAULTY: [u8; 5] = [0x09, 0x00, 0x01, 0x00, 0x0b];
+
+fn small(files: &Files) -> bool {
+    files.body.iter().all(|b| b.len() < 2_000)
 }
 
 impl EntryRecording {
@@ -56,22 +65,26 @@ impl EntryRecording {
         Ok(())
     }
 
-    /// Tables and stores to be refused.
-    fn faults(&mut self) -> Result<(), String> {
-        let small = |files: &Files| files.body.iter().all(|b| b.len() < 2_000);
-        let code = [0x09, 0x00, 0x01, 0x00, 0x0b];
-        let tables = faults::tables().into_iter().filter(|case| small(&case.files));
+    /// Some of these tables, without a store or with an empty one.
+    fn tables(&mut self, cases: Vec<Case>) -> Result<(), String> {
+        let tables = cases.into_iter().filter(|case| small(&case.files));
         for (k, case) in tables.step_by(7).enumerate() {
             let object = if k % 3 == 0 { 0 } else { NO_OBJECT };
-            self.call(&case.files, &code, &Call::new(JUMP_ENTRY, &[object, 0, 0]))?;
+            self.call(&case.files, &FAULTY, &Call::new(JUMP_ENTRY, &[object, 0, 0]))?;
         }
+        Ok(())
+    }
+
+    /// Tables and stores to be refused.
+    fn faults(&mut self) -> Result<(), String> {
+        self.tables(faults::tables())?;
         let stores = faults::stores().into_iter().filter(|case| small(&case.files));
         for (k, case) in stores.step_by(9).enumerate() {
             let mut files = sample::table();
             for file in OBJECTS..=PAYLOAD {
                 files.body[file] = case.files.body[file].clone();
             }
-            self.call(&files, &code, &Call::new(JUMP_ENTRY, &[k as u64 % 3, 0, 0]))?;
+            self.call(&files, &FAULTY, &Call::new(JUMP_ENTRY, &[k as u64 % 3, 0, 0]))?;
         }
         Ok(())
     }
@@ -102,6 +115,37 @@ impl EntryRecording {
                 for entry in [0, 1, 2, 3, 4_095, 4_096, u64::MAX] {
                     self.call(&files, &code, &Call::new(JUMP_ENTRY, &[object, 0, entry]))?;
                 }
+            }
+        }
+        Ok(())
+    }
+
+    /// Flows at fault; chosen opcodes whose flow is 5 and not that of their name, and switches with another flow; and counts of such.
+    fn flows(&mut self) -> Result<(), String> {
+        self.tables(faults::flow_tables())?;
+        for chosen in flow_cases::chosen() {
+            for scale in [1, 2, 4] {
+                for row in &chosen.rows {
+                    // At other scales each seventh.
+                    if scale > 1 && row.opcode % 7 > 0 {
+                        continue;
+                    }
+                    let entries = match row.is_switch() {
+                        true => &[0, 1, 9][..],
+                        false if SWITCHES.contains(&row.name) => &[0],
+                        false => &[],
+                    };
+                    let code = flow_cases::code_of(&row.instruction(&chosen.files, scale));
+                    for entry in entries {
+                        let call = Call::new(JUMP_ENTRY, &[0, 4, *entry]);
+                        self.call(&chosen.files, &code, &call)?;
+                    }
+                }
+            }
+        }
+        for (files, code) in flow_cases::counted(true) {
+            for entry in [0, 4_095, 4_096] {
+                self.call(&files, &code, &Call::new(JUMP_ENTRY, &[0, 1, entry]))?;
             }
         }
         Ok(())
@@ -172,6 +216,17 @@ fn classes(
         Answer::Found { words, .. } => words.iter().map(|w| w.bits()).collect(),
         _ => Vec::new(),
     };
+    if let Some(named) = flow_cases::of_call(files, code, call)? {
+        let entry = match found[..] {
+            [0, ..] => "shown",
+            [1] => "skipped",
+            [2] => "beyond",
+            _ => "nothing",
+        };
+        let of = |class: &String| class.starts_with("flow") && class.contains(" of ");
+        let also = named.iter().filter(|class| of(class)).map(|class| format!("{class}: {entry}"));
+        return Ok(also.chain(named.iter().cloned()).collect());
+    }
     let (name, scale, _) = instruction(files, code, call.args[1])?.unwrap_or_default();
     if !SWITCHES.contains(&name.as_str()) {
         return Ok(vec!["nothing, another name".into()]);
@@ -208,8 +263,17 @@ pub fn wanted() -> Vec<String> {
             out.push(format!("{class}{prefixed}"));
         }
     }
+    for name in ["a name without a flow", "a name that says otherwise"] {
+        for entry in ["shown", "skipped", "beyond", "nothing"] {
+            out.push(format!("flow 5 of {name}: {entry}"));
+        }
+    }
+    let tables = |class: &String| class.starts_with("table") || class.starts_with("flow 5");
+    out.extend(flow_cases::wanted().into_iter().filter(tables));
     out.extend(["nothing, another name", "end"].map(String::from));
-    out.extend([1, 2, 3, 4, 5, 6, 7, 8, 10, 20, 11, 12, 13, 14].map(|n| format!("refused {n}")));
+    out.extend(
+        [1, 2, 3, 26, 4, 5, 6, 7, 8, 10, 20, 11, 12, 13, 14].map(|n| format!("refused {n}")),
+    );
     out
 }
 

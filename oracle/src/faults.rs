@@ -1,7 +1,8 @@
-//! Tables and stores with one fault or two, for each refusal 1 to 7 at its first, middle and last
-//! place, and others at a limit with none. Each case says what document 01 answers to it.
+//! Tables and stores with one fault or two, for each refusal 1 to 7, and 26, at its first, middle and
+//! last place, and others at a limit with none. Each case says what the documents answer to it.
 
 use crate::checks::{refuse, Check};
+use crate::flows::MOST;
 use crate::records::*;
 use crate::sample;
 
@@ -82,27 +83,38 @@ pub fn tables() -> Vec<Case> {
     out
 }
 
-/// As many records as there may be, one more, and faults in the last of so many. A name record is
-/// an opcode record too, and the last of this run is neither.
+/// Tables with a flow that is good, or at fault.
+pub fn flow_tables() -> Vec<Case> {
+    let base = table();
+    [flows(&base), flow_orders(&base)].into_iter().flatten().collect()
+}
+
+/// As many records as there may be, one more, and faults in the last of so many.
 fn limits(base: &Files) -> Vec<Case> {
     let mut names: Vec<u8> = (0..1025).flat_map(|k| name_record(&format!("N{k}"))).collect();
-    names[1024 * 64] = b'-';
-    let part = |first: usize, count: usize| names[64 * first..64 * (first + count)].to_vec();
+    names[1024 * SIZES[RUNTIME]] = b'-';
+    let mut opcodes: Vec<u8> =
+        (0..257).flat_map(|k| opcode_record(&format!("N{k}"), 0, &[])).collect();
+    opcodes[256 * SIZES[OPCODES]] = b'-';
+    let part = |file: usize, first: usize, count: usize| {
+        let records = if file == OPCODES { &opcodes } else { &names };
+        records[SIZES[file] * first..SIZES[file] * (first + count)].to_vec()
+    };
     let mut out = Vec::new();
     for (file, most) in [(RUNTIME, 1024), (INTRINSIC, 256), (OPCODES, 256)] {
         let name = FILES[file];
-        let with = |first, count| with_file(base, file, part(first, count));
+        let with = |first, count| with_file(base, file, part(file, first, count));
         let class = format!("table_check: refused 1, {name}, one too many");
         out.push(case(class, with(0, most + 1), refuse(1, 0)));
         let class = format!("table_check: passed, {name}, as many as there may be");
         out.push(case(class, with(0, most), Ok(())));
         let class = format!("table_check: refused 2, {name}, last of the most");
-        out.push(case(class, with(1025 - most, most), refuse(2, most - 1)));
+        let all = if file == OPCODES { 257 } else { 1025 };
+        out.push(case(class, with(all - most, most), refuse(2, most - 1)));
     }
-    let mut opcodes = part(0, 256);
-    opcodes[255 * 64 + 40] = 3;
+    let last = with_file(base, OPCODES, part(OPCODES, 0, 256));
     let class = "table_check: refused 3, opcodes, last of the most";
-    out.push(case(class, with_file(base, OPCODES, opcodes), refuse(3, 255)));
+    out.push(case(class, with(&last, OPCODES, 255, 40, &[3]), refuse(3, 255)));
     let mut types = base.body[TYPES].clone();
     types.extend((19..65).flat_map(|k| type_record(&format!("T{k}"), 2, true)));
     let class = "table_check: refused 1, types, one too many";
@@ -148,7 +160,7 @@ fn sizes(base: &Files) -> Vec<Case> {
     let types = base.body[TYPES][..17 * 32].to_vec();
     let few = with(&with_file(base, TYPES, types), OPCODES, 2, 42, &[9, 16, 15]);
     out.push(case("table_check: passed, 17 types", few, Ok(())));
-    let one = base.body[OPCODES][..64].to_vec();
+    let one = base.body[OPCODES][..SIZES[OPCODES]].to_vec();
     out.push(case("table_check: passed, one opcode", with_file(base, OPCODES, one), Ok(())));
     out
 }
@@ -198,8 +210,8 @@ fn opcodes(base: &Files) -> Vec<Case> {
             (41, &[0, 1]),
             (41, &[1, 0, 1]),
             (41, &[7, 0, 0, 0, 0, 0, 0, 0, 1]),
-            (50, &[1]),
-            (63, &[1]),
+            (54, &[1]),
+            (71, &[1]),
         ] {
             let files = with(base, OPCODES, record, at, bytes);
             out.push(case(class.clone(), files, refuse(3, record)));
@@ -310,6 +322,75 @@ fn orders(base: &Files) -> Vec<Case> {
     ];
     let named = |(what, files, says)| case(format!("table_check: order, {what}"), files, says);
     cases.into_iter().map(named).collect()
+}
+
+/// Each of bytes 50 to 53 at its ends and beyond, whatever the others are, and the zeros behind them: 26 and 3.
+fn flows(base: &Files) -> Vec<Case> {
+    let mut out = Vec::new();
+    for (place, record) in places(base.count(OPCODES)) {
+        for (k, most) in MOST.into_iter().enumerate() {
+            let at = FLOW + k;
+            for value in [1, most] {
+                let files = with(base, OPCODES, record, at, &[value]);
+                let class = format!("table_check: passed, byte {at} up to {most}, {place}");
+                out.push(case(class, files, Ok(())));
+            }
+            for value in [most + 1, 255] {
+                let files = with(base, OPCODES, record, at, &[value]);
+                let class = format!("table_check: refused 26, byte {at}, {place}");
+                out.push(case(class, files, refuse(26, record)));
+            }
+        }
+        let class = format!("table_check: passed, bytes 50 to 53 at their most, {place}");
+        out.push(case(class, with(base, OPCODES, record, FLOW, &MOST), Ok(())));
+        for at in [54, 63, 64, 71] {
+            let files = with(base, OPCODES, record, at, &[1]);
+            let class = format!("table_check: refused 3, byte {at}, {place}");
+            out.push(case(class, files, refuse(3, record)));
+        }
+    }
+    for kind in 0..=MOST[0] {
+        let files = with(base, OPCODES, 2, FLOW, &[kind, 1, 7, 1]);
+        out.push(case(format!("table_check: passed, flow {kind}"), files, Ok(())));
+        let files = with(base, OPCODES, 2, FLOW, &[kind, 0, 8, 0]);
+        let class = format!("table_check: refused 26, byte 52 of flow {kind}");
+        out.push(case(class, files, refuse(26, 2)));
+    }
+    out
+}
+
+/// 26 with other faults: met record by record with 3, behind it in a record, and between 2 and 4.
+fn flow_orders(base: &Files) -> Vec<Case> {
+    let flow = |files: &Files, record| with(files, OPCODES, record, FLOW, &[6]);
+    let opcode = |files: &Files, record| with(files, OPCODES, record, 40, &[7]);
+    let zeros = |files: &Files, record| with(files, OPCODES, record, 71, &[7]);
+    let name = |files: &Files, file, record| with(files, file, record, 0, b"-");
+    let kind = |files: &Files, record| with(files, TYPES, record, 30, &[7]);
+    let value = |files: &Files, at: usize| with(files, LAYOUT, 0, 4 * at, &[99]);
+    let cut = |files: &Files, file: usize| {
+        let body = files.body[file][1..].to_vec();
+        with_file(files, file, body)
+    };
+    let cases = [
+        ("26 before 3 of a later record", opcode(&flow(base, 2), 3), refuse(26, 2)),
+        ("26 before zeros of a later record", zeros(&flow(base, 0), 1), refuse(26, 0)),
+        ("3 before 26 of a later record", opcode(&flow(base, 3), 2), refuse(3, 2)),
+        ("3 before 26 of its own record", opcode(&flow(base, 3), 3), refuse(3, 3)),
+        ("zeros before 26 of their own record", zeros(&flow(base, 4), 4), refuse(3, 4)),
+        ("26, the first of two", flow(&flow(base, 4), 1), refuse(26, 1)),
+        ("1 before 26", cut(&flow(base, 0), LAYOUT), refuse(1, 0)),
+        ("2 before 26", name(&flow(base, 0), OPCODES, 4), refuse(2, 4)),
+        ("2 of a later file before 26", name(&flow(base, 0), INTRINSIC, 2), refuse(2, 2)),
+        ("26 before 4", flow(&kind(base, 0), 4), refuse(26, 4)),
+        ("26 before 5", flow(&value(base, 0), 4), refuse(26, 4)),
+    ];
+    let named = |(what, files, says)| case(format!("table_check: order, {what}"), files, says);
+    let mut out: Vec<Case> = cases.into_iter().map(named).collect();
+    let opcodes = (0..256).flat_map(|k| opcode_record(&format!("N{k}"), 0, &[])).collect();
+    let last = with(&with_file(base, OPCODES, opcodes), OPCODES, 255, FLOW, &[6]);
+    let class = "table_check: refused 26, opcodes, last of the most";
+    out.push(case(class, last, refuse(26, 255)));
+    out
 }
 
 // ---- stores ----

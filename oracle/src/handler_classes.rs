@@ -3,7 +3,8 @@
 use crate::ask::*;
 use crate::checks::Refusal;
 use crate::decode::plain;
-use crate::handlers::{self, Handler, MOST, SIZE};
+use crate::flows::{Flow, ALWAYS, ENDS, MAYBE, SWITCHES};
+use crate::handlers::{self, Handler, MOST, NEVER, SIZE};
 use crate::port::{Port, STORE, TABLE};
 use crate::records::Files;
 use crate::walk_classes::{held, of_object, Asked};
@@ -58,18 +59,18 @@ fn code_length(
 ) -> Result<Option<usize>, String> {
     Ok(match number {
         _ if !of_object(call) => Some(lent.len()),
-        0..=9 => None,
+        0..=9 | 26 => None,
         19 => Some(Port::new(files, TABLE | STORE)?.code_length(0) as usize),
         _ => Some(Port::new(files, TABLE | STORE)?.code(0).len()),
     })
 }
 
-/// 19 is before 18, and the others are in the order of their numbers.
+/// 19 is before 18, 26 is met with 3, and the others are in the order of their numbers.
 fn order(number: u64) -> u64 {
-    if number == 18 {
-        20
-    } else {
-        number
+    match number {
+        18 => 20,
+        26 => 3,
+        _ => number,
     }
 }
 
@@ -122,8 +123,11 @@ pub fn on_walk(asked: &Asked, without: &Steps) -> Vec<String> {
             out.extend(of_several(&asked.handlers, ins));
         }
     }
-    for ins in asked.listed.iter().filter(|ins| asked.walked.marks[ins.offset]) {
-        out.extend(of_name(&asked.handlers, ins));
+    for (ins, (flow, _)) in asked.listed.iter().zip(&asked.flows) {
+        if !asked.walked.marks[ins.offset] {
+            continue;
+        }
+        out.extend(of_name(&asked.handlers, ins, flow));
         out.extend(asked.throws[ins.offset].map(|to| of_place(asked, ins, to)));
     }
     out.extend(of_answer(asked, &walk(without, asked.code.len())));
@@ -215,8 +219,13 @@ fn holds(handler: &Handler, ins: &Instr) -> bool {
 }
 
 /// The name of an instruction that is reached and that a record holds.
-fn of_name(handlers: &[Handler], ins: &Instr) -> Option<String> {
+fn of_name(handlers: &[Handler], ins: &Instr, flow: &Flow) -> Option<String> {
     handlers.iter().any(|h| holds(h, ins)).then(|| {
+        if !flow.named {
+            let never = NEVER.contains(&plain(ins));
+            let name = if never { plain(ins) } else { "another name" };
+            return format!("{name} by flow {} in a range", flow.kind);
+        }
         let prefix = ["", "", " under Wide", "", " under ExtraWide"][ins.scale as usize];
         let told = named().any(|name| name == plain(ins));
         format!("{}{prefix} in a range", if told { plain(ins) } else { "another" })
@@ -421,7 +430,7 @@ const REFUSED: [&str; 19] = [
 ];
 
 /// Numbers before 24; 9 and 19 are those of an object's code, 10 that of lent code.
-const BEFORE: [u64; 15] = [1, 2, 3, 4, 5, 6, 7, 8, 11, 12, 13, 14, 15, 16, 18];
+const BEFORE: [u64; 16] = [1, 2, 3, 26, 4, 5, 6, 7, 8, 11, 12, 13, 14, 15, 16, 18];
 
 pub fn wanted() -> Vec<String> {
     let mut out: Vec<String> =
@@ -429,6 +438,12 @@ pub fn wanted() -> Vec<String> {
     out.extend((1..=10).map(|n| format!("leaves by a handler in {n} steps")));
     for prefix in ["", " under Wide", " under ExtraWide"] {
         out.extend(named().chain(["another"]).map(|name| format!("{name}{prefix} in a range")));
+    }
+    for kind in 0..=5 {
+        out.push(format!("another name by flow {kind} in a range"));
+        if kind != 1 {
+            out.extend(NEVER.map(|name| format!("{name} by flow {kind} in a range")));
+        }
     }
     for at in ["the only", "the first", "a middle", "the last"] {
         for how in ["start is end", "start above end", "end beyond the code"] {

@@ -4,9 +4,10 @@
 use crate::ask::*;
 use crate::checks::MOST_CODE;
 use crate::classes::Classes;
-use crate::codes::{self, Pools};
+use crate::codes;
 use crate::decode;
-use crate::faults;
+use crate::faults::{self, Case};
+use crate::flow_cases;
 use crate::handler_classes::named;
 use crate::handlers::{self, Handler, MOST, SIZE};
 use crate::port::{Port, TABLE};
@@ -22,6 +23,8 @@ const TABLES: usize = 16;
 const CODES: usize = 15;
 const SETS: usize = 6;
 const OBJECTS_CODES: usize = 2;
+/// Random tables whose opcodes have other flows than their names.
+const FLOW_TABLES: usize = 5;
 /// Only contents longer than this are looked for in the file.
 const SHORT: usize = 300;
 /// No instruction starts there, whatever the code.
@@ -54,11 +57,18 @@ pub fn record(seed: u64) -> Result<HandlerRecording, String> {
     out.refused_records()?;
     out.refused_codes()?;
     out.objects()?;
-    out.faults()?;
+    out.faults(faults::tables(), faults::stores())?;
     out.limits()?;
     let pools = codes::pools(&mut r);
     for k in 0..TABLES {
-        out.table(&mut r, &pools, k)?;
+        let files = walk_codes::table(&mut r, &pools, k);
+        out.table(&mut r, files)?;
+    }
+    out.flows()?;
+    for k in 0..FLOW_TABLES {
+        let mut files = walk_codes::table(&mut r, &pools, k);
+        flow_cases::change_flows(&mut r, &mut files);
+        out.table(&mut r, files)?;
     }
     Ok(out)
 }
@@ -151,6 +161,22 @@ impl HandlerRecording {
                 }
                 if scale > 1 {
                     self.code_with(0, &one(1, end, NOWHERE))?;
+                }
+            }
+        }
+        Ok(())
+    }
+
+    /// Flows at fault; chosen opcodes whose flow is not that of their name: with a handler that is an instruction, and with one that is none.
+    fn flows(&mut self) -> Result<(), String> {
+        self.faults(faults::flow_tables(), Vec::new())?;
+        let [chosen, ..] = flow_cases::chosen();
+        for scale in [1, 2] {
+            for row in &chosen.rows {
+                let code = flow_cases::code_of(&row.instruction(&chosen.files, scale));
+                self.set(&chosen.files, &code);
+                for to in [code.len() as u32 - 2, NOWHERE] {
+                    self.code_with(0, &one(4, 5, to))?;
                 }
             }
         }
@@ -338,11 +364,11 @@ impl HandlerRecording {
     }
 
     /// Tables and stores to be refused: the first of each number.
-    fn faults(&mut self) -> Result<(), String> {
+    fn faults(&mut self, tables: Vec<Case>, stores: Vec<Case>) -> Result<(), String> {
         let sample = sample::sample();
         let small = |files: &Files| files.body.iter().all(|b| b.len() < 2_000);
-        let tables = faults::tables().into_iter().map(|case| (case, OPCODES..OBJECTS));
-        let stores = faults::stores().into_iter().map(|case| (case, OBJECTS..PAYLOAD + 1));
+        let tables = tables.into_iter().map(|case| (case, OPCODES..OBJECTS));
+        let stores = stores.into_iter().map(|case| (case, OBJECTS..PAYLOAD + 1));
         for (case, part) in tables.chain(stores).filter(|(case, _)| small(&case.files)) {
             let mut files = sample.clone();
             files.body[part.clone()].clone_from_slice(&case.files.body[part]);
@@ -392,8 +418,7 @@ impl HandlerRecording {
     }
 
     /// Codes by a table, each with some files of records.
-    fn table(&mut self, r: &mut Random, pools: &Pools, k: usize) -> Result<(), String> {
-        let mut files = walk_codes::table(r, pools, k);
+    fn table(&mut self, r: &mut Random, mut files: Files) -> Result<(), String> {
         let pool = walk_codes::pool(r);
         set_store(&mut files, &[], &[], &pool);
         for _ in 0..CODES {
@@ -569,9 +594,11 @@ fn instruction(files: &Files, name: &str, scale: usize) -> Vec<u8> {
 #[cfg(test)]
 mod tests {
     use super::*;
+    use crate::ask::{ask_with, Answer};
     use crate::handler_classes::wanted;
     use crate::recording::SEED;
     use crate::vectors;
+    use crate::walks::Outcome;
 
     /// The file in recorded/ is what the seed gives, and every class has a case.
     #[test]
@@ -595,5 +622,40 @@ mod tests {
             Ok(())
         });
         assert!(calls.unwrap() > 5_000);
+    }
+
+    /// What rewalk says of the functions with handlers in a file, from our own marks: as many of them are closed, and as many handlers reached, here.
+    #[test]
+    fn tries_are_as_many() {
+        let stdout = include_str!("../../crates/rewalk/stdout");
+        for (name, recorded) in [
+            ("walk-handlers.vec", &include_bytes!("../recorded/walk-handlers.vec")[..]),
+            ("walk-tries.vec", &include_bytes!("../recorded/walk-tries.vec")[..]),
+            ("walk-tries-v8.vec", &include_bytes!("../recorded/walk-tries-v8.vec")[..]),
+        ] {
+            let (mut functions, mut closed, mut handlers, mut reached) = (0, 0, 0, 0);
+            vectors::each(recorded, |recorded| {
+                if recorded.call.function != WALK_WITH {
+                    return Ok(());
+                }
+                functions += 1;
+                handlers += recorded.handlers.len() / 12;
+                let call = Call::new(WALK_WITH, &[65_536]);
+                let answer = ask_with(recorded.files, &[], recorded.handlers, &call)?;
+                let Answer::Walked(walked) = answer else { return Ok(()) };
+                closed += usize::from(matches!(walked.outcome, Outcome::Closed));
+                let to = |record: &[u8]| u32::from_le_bytes(record[8..].try_into().unwrap());
+                let marked = |record: &&[u8]| walked.marks.get(to(record) as usize) == Some(&true);
+                reached += recorded.handlers.chunks_exact(12).filter(marked).count();
+                Ok(())
+            })
+            .unwrap();
+            let said = format!(
+                "tries: {functions} functions, {closed} closed; {handlers} handlers, {reached} reached"
+            );
+            let lines: Vec<&str> =
+                stdout.lines().skip_while(|line| *line != name).take(10).collect();
+            assert!(lines.contains(&said.as_str()), "{name}: {said}");
+        }
     }
 }

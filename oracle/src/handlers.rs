@@ -81,9 +81,10 @@ pub fn step(handlers: &[Handler], ins: &Instr) -> Option<usize> {
 mod tests {
     use super::*;
     use crate::ask::{ask_with, Answer, Call, NO_OBJECT, WALK_CODE_WITH, WALK_WITH};
+    use crate::flows::ENDS;
     use crate::records::*;
     use crate::sample;
-    use crate::walks::{packed, ENDS};
+    use crate::walks::{packed, Outcome};
 
     /// The sample's table, with the other ends from 0c on.
     fn table(mut files: Files) -> Files {
@@ -171,6 +172,38 @@ mod tests {
                 assert_eq!(on(code, &[(0, 1, 9)]), wanted, "{name}");
                 assert_eq!(on(code, &[(0, 1, 0)]), "closed", "{name}");
             }
+        }
+    }
+
+    /// Wish 6: by name the two never have the step, whatever their flow, and by flow an end of another name has it.
+    #[test]
+    fn by_name_alone() {
+        for (name, kind) in ["Return", "SuspendGenerator", "Stop"]
+            .iter()
+            .flat_map(|name| (0..6).map(move |kind| (name, kind)))
+        {
+            let code = [0x0c, 0x02, 0x0b];
+            let mut files = sample::function(&code, 8, &[]);
+            files.body[OPCODES].extend(flow_record(name, 0, &[], [kind, 0, 0, 0]));
+            let said = |to| {
+                let call = Call::new(WALK_WITH, &[9]);
+                let handlers = file(&[Handler::new(0, 1, to)]);
+                match ask_with(&files, &[], &handlers, &call).unwrap() {
+                    Answer::Walked(walked) => (walked.outcome, packed(&walked.marks)),
+                    other => panic!("{other}"),
+                }
+            };
+            // Of the jumps none has a target.
+            let left = Outcome::Leaves { steps: 1, from: 0 };
+            let jumps = matches!(kind, 2..=4);
+            let closed = *name != "Stop" && !jumps;
+            assert_eq!(said(9).0, if closed { Outcome::Closed } else { left }, "{name} {kind}");
+            let marks = match kind {
+                0 | 5 => 0b111,
+                1 if *name == "Stop" => 0b101,
+                _ => 0b001,
+            };
+            assert_eq!(said(2).1, [marks], "{name} {kind}");
         }
     }
 

@@ -123,7 +123,9 @@ pub fn classes(
         (LAST_BYTES, Answer::Each(_)) => vec![format!("codes of {} bytes", code.len() + 1)],
         (_, Answer::End) if code.is_empty() => vec!["end, empty code".into()],
         (_, Answer::End) => vec!["end".into()],
-        (_, Answer::Refused(r)) if r.number <= 10 => vec![format!("refused {}", r.number)],
+        (_, Answer::Refused(r)) if r.number <= 10 || r.number == 26 => {
+            vec![format!("refused {}", r.number)]
+        }
         (_, Answer::Refused(r)) if r.number == 20 => vec![match call.args[0] - code.len() as u64 {
             1 => "refused 20, one beyond".into(),
             _ if call.args[0] == u64::MAX => "refused 20, the last number".into(),
@@ -581,12 +583,13 @@ const WANTED: [(&str, &[&str]); 5] = [
 ];
 
 /// What each call at a start place can meet.
-const AT_A_PLACE: [&str; 36] = [
+const AT_A_PLACE: [&str; 37] = [
     "end",
     "end, empty code",
     "refused 1",
     "refused 2",
     "refused 3",
+    "refused 26",
     "refused 4",
     "refused 5",
     "refused 10",

@@ -4,7 +4,8 @@ use crate::ask::*;
 use crate::checks::MOST_CODE;
 use crate::classes::{slots, Classes};
 use crate::codes;
-use crate::faults;
+use crate::faults::{self, Case};
+use crate::flow_cases;
 use crate::lists::{self, JUMPS, SWITCHES};
 use crate::random::Random;
 use crate::records::*;
@@ -20,6 +21,10 @@ const TABLES: usize = 48;
 const SHAPES: usize = 3;
 const CODES: usize = 5;
 const JUMP_CALLS: usize = 6;
+/// Tables whose opcodes have other flows than their names.
+const FLOW_TABLES: usize = 12;
+/// Chosen opcodes of one code.
+const TOGETHER: usize = 24;
 /// A call is taken where one of its classes has fewer cases than this, and else sometimes.
 const ENOUGH: usize = 30;
 
@@ -51,6 +56,13 @@ pub fn record(seed: u64) -> Result<JumpRecording, String> {
         }
     }
     out.switches()?;
+    out.flows()?;
+    for k in 0..FLOW_TABLES {
+        let mut table = lists::table(&mut r, &pools, k);
+        flow_cases::change_flows(&mut r, &mut table);
+        let (ts, unit) = [(8, 0), (4, 8), (4, 4), (8, 8)][k % 4];
+        out.random(&mut r, &table, ts, unit)?;
+    }
     out.long_codes()?;
     Ok(out)
 }
@@ -77,6 +89,13 @@ fn slot_calls(files: &Files) -> Vec<Call> {
     out
 }
 
+/// The code that tables and stores at fault are lent with.
+const FAULTY: [u8; 7] = [0x05, 0x02, 0x09, 0x00, 0x01, 0x00, 0x0b];
+
+fn small(files: &Files) -> bool {
+    files.body.iter().all(|b| b.len() < 2_000)
+}
+
 impl JumpRecording {
     fn set(&mut self, files: &Files, code: &[u8]) {
         self.writer.files(files);
@@ -92,25 +111,29 @@ impl JumpRecording {
         Ok(())
     }
 
-    /// Tables and stores to be refused.
-    fn faults(&mut self) -> Result<(), String> {
-        let small = |files: &Files| files.body.iter().all(|b| b.len() < 2_000);
-        let code = [0x05, 0x02, 0x09, 0x00, 0x01, 0x00, 0x0b];
-        let tables = faults::tables().into_iter().filter(|case| small(&case.files));
+    /// Some of these tables, without a store or with an empty one.
+    fn tables(&mut self, cases: Vec<Case>) -> Result<(), String> {
+        let tables = cases.into_iter().filter(|case| small(&case.files));
         for (k, case) in tables.step_by(7).enumerate() {
-            self.set(&case.files, &code);
+            self.set(&case.files, &FAULTY);
             let object = if k % 3 == 0 { 0 } else { NO_OBJECT };
             self.call(&Call::new(JUMP_TARGET, &[object, 0]))?;
             self.call(&Call::new(JUMP_TABLE, &[object, 2]))?;
             self.call(&Call::new(MAX_REGISTER, &[]))?;
         }
+        Ok(())
+    }
+
+    /// Tables and stores to be refused.
+    fn faults(&mut self) -> Result<(), String> {
+        self.tables(faults::tables())?;
         let stores = faults::stores().into_iter().filter(|case| small(&case.files));
         for (k, case) in stores.step_by(5).enumerate() {
             let mut files = sample::table();
             for file in OBJECTS..=PAYLOAD {
                 files.body[file] = case.files.body[file].clone();
             }
-            self.set(&files, &code);
+            self.set(&files, &FAULTY);
             let object = k as u64 % 3;
             self.call(&Call::new(SMI_SLOT, &[object, 1]))?;
             self.call(&Call::new(NUM_FIELD, &[object, 1, k as u64 % 2]))?;
@@ -129,6 +152,33 @@ impl JumpRecording {
                 self.call(&Call::new(JUMP_TABLE, &[object, 0]))?;
                 self.call(&Call::new(JUMP_TARGET, &[object, 0]))?;
             }
+        }
+        Ok(())
+    }
+
+    /// Flows at fault; chosen opcodes whose flow is not that of their name, most with a pool; and counts of such.
+    fn flows(&mut self) -> Result<(), String> {
+        self.tables(faults::flow_tables())?;
+        for (k, chosen) in flow_cases::chosen().iter().enumerate() {
+            let scales = if k == 1 { &[1, 2][..] } else { &[1, 2, 4] };
+            for scale in scales {
+                for (starts, code) in flow_cases::codes_of(chosen, *scale, TOGETHER) {
+                    self.set(&chosen.function(&[]), &code);
+                    for (j, start) in starts.iter().enumerate() {
+                        let others = if j % 5 == 0 { &[0, NO_OBJECT][..] } else { &[0] };
+                        for object in others {
+                            self.call(&Call::new(JUMP_TARGET, &[*object, *start as u64]))?;
+                            self.call(&Call::new(JUMP_TABLE, &[*object, *start as u64]))?;
+                        }
+                    }
+                }
+            }
+        }
+        for (files, code) in flow_cases::counted(false) {
+            self.set(&files, &code);
+            self.call(&Call::new(JUMP_TARGET, &[0, 1]))?;
+            self.call(&Call::new(JUMP_TABLE, &[0, 1]))?;
+            self.call(&Call::new(JUMP_TABLE, &[NO_OBJECT, 1]))?;
         }
         Ok(())
     }
@@ -263,6 +313,11 @@ fn classes(
         Answer::Found { words, .. } => words.iter().map(|w| w.bits()).collect(),
         _ => Vec::new(),
     };
+    if let JUMP_TARGET | JUMP_TABLE = call.function {
+        if let Some(named) = flow_cases::of_call(files, code, call)? {
+            return Ok(named.into_iter().map(|class| format!("{function}: {class}")).collect());
+        }
+    }
     let named = match call.function {
         SMI_SLOT => smi_classes(files, call, &found),
         NUM_FIELD => num_classes(files, call, &found)?,
@@ -380,12 +435,18 @@ pub fn wanted() -> Vec<String> {
         out.push(format!("{function}: nothing, another name"));
         out.push(format!("{function}: end"));
         out.extend(
-            [1, 2, 3, 4, 5, 6, 7, 8, 10, 20, 11, 12, 13, 14]
+            [1, 2, 3, 26, 4, 5, 6, 7, 8, 10, 20, 11, 12, 13, 14]
                 .map(|n| format!("{function}: refused {n}")),
         );
     }
+    for class in flow_cases::wanted() {
+        let tables = class.starts_with("flow 5") || class.starts_with("table");
+        out.push(format!("{}: {class}", if tables { "jump_table" } else { "jump_target" }));
+    }
     out.extend(["found", "nothing"].map(|c| format!("max_register: {c}")));
-    out.extend([1, 2, 3, 4, 5, 10, 11, 12, 13, 14].map(|n| format!("max_register: refused {n}")));
+    out.extend(
+        [1, 2, 3, 26, 4, 5, 10, 11, 12, 13, 14].map(|n| format!("max_register: refused {n}")),
+    );
     out
 }
 

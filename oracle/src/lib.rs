@@ -1,8 +1,10 @@
-//! The published Rust as an oracle over document 01's record files.
+//! The published Rust as an oracle over document 01's record files, with document 02's opcode records.
 //!
 //! records: the eight files. port: files into the Rust's own structures. decode: its decoder, with
-//! document 01's numbers. checks: the refusals that the Rust does not have. switches: tables of switches,
-//! by V8's rule where the Rust has none. ask: the answer of one function. vectors: answers as a file. sample, cases: document 01's sample and rows. recording:
+//! document 01's numbers. checks: the refusals that the Rust does not have. flows: what an opcode does, by
+//! its record. switches: tables of switches, by V8's rule where the Rust has none. convert: opcode records
+//! of 64 bytes to 72 and back, with vectors in convert_recording. flow_cases: opcodes whose flow is not
+//! that of their name. ask: the answer of one function. vectors: answers as a file. sample, cases: document 01's sample and rows. recording:
 //! vectors from a seed, out of stores (random ones and their boundaries) and faults, by classes.
 //! code_recording: the same for instructions, out of codes, by the classes in instructions.
 //! list_recording, jump_recording: the same for whole listings, and for targets and numbers in slots,
@@ -22,9 +24,13 @@ pub mod checks;
 pub mod classes;
 pub mod code_recording;
 pub mod codes;
+pub mod convert;
+pub mod convert_recording;
 pub mod decode;
 pub mod entry_recording;
 pub mod faults;
+pub mod flow_cases;
+pub mod flows;
 pub mod handler_classes;
 pub mod handler_recording;
 pub mod handlers;

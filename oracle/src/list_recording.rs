@@ -3,8 +3,11 @@
 use crate::ask::*;
 use crate::classes::Classes;
 use crate::codes;
-use crate::faults;
+use crate::decode;
+use crate::faults::{self, Case};
+use crate::flow_cases;
 use crate::lists::{self, JUMPS, SWITCHES};
+use crate::port::{Port, STORE, TABLE};
 use crate::random::Random;
 use crate::records::*;
 use crate::sample;
@@ -14,6 +17,11 @@ use crate::vectors::Writer;
 const TABLES: usize = 48;
 const STORES: usize = 6;
 const CODES: usize = 7;
+/// The same where opcodes have other flows than their names.
+const FLOW_TABLES: usize = 8;
+const FLOW_STORES: usize = 2;
+/// Chosen opcodes of one listing.
+const TOGETHER: usize = 24;
 
 pub struct ListRecording {
     pub writer: Writer,
@@ -35,7 +43,20 @@ pub fn record(seed: u64) -> Result<ListRecording, String> {
             out.random(&mut r, &table, ts, unit)?;
         }
     }
+    out.flows()?;
+    for k in 0..FLOW_TABLES {
+        let mut table = lists::table(&mut r, &pools, k);
+        flow_cases::change_flows(&mut r, &mut table);
+        for j in 0..FLOW_STORES {
+            let (ts, unit) = [(8, 0), (4, 8), (4, 4), (8, 8)][(j + k) % 4];
+            out.random(&mut r, &table, ts, unit)?;
+        }
+    }
     Ok(out)
+}
+
+fn small(files: &Files) -> bool {
+    files.body.iter().all(|b| b.len() < 2_000)
 }
 
 impl ListRecording {
@@ -43,21 +64,39 @@ impl ListRecording {
     fn call(&mut self, files: &Files) -> Result<(), String> {
         self.writer.files(files);
         let answer = self.writer.call(&Call::new(LISTING, &[]))?;
-        self.classes.add(&classes(files, &answer));
+        self.classes.add(&classes(files, &answer)?);
         Ok(())
     }
 
-    /// The sample with a fault in its table, in its store, or in object 0.
-    fn faults(&mut self) -> Result<(), String> {
-        let small = |files: &Files| files.body.iter().all(|b| b.len() < 2_000);
-        let tables = faults::tables().into_iter().filter(|case| small(&case.files));
-        for case in tables.step_by(5) {
+    /// Flows at fault; chosen opcodes whose flow is not that of their name, and counts of such.
+    fn flows(&mut self) -> Result<(), String> {
+        self.tables(faults::flow_tables())?;
+        for (k, chosen) in flow_cases::chosen().iter().enumerate() {
+            let scales = [&[1, 2, 4][..], &[1], &[1, 2]][k];
+            for scale in scales {
+                for (_, code) in flow_cases::codes_of(chosen, *scale, TOGETHER) {
+                    self.call(&chosen.function(&code))?;
+                }
+            }
+        }
+        flow_cases::counted(false).iter().try_for_each(|(files, _)| self.call(files))
+    }
+
+    /// The sample's function by some of these tables.
+    fn tables(&mut self, cases: Vec<Case>) -> Result<(), String> {
+        for case in cases.into_iter().filter(|case| small(&case.files)).step_by(5) {
             let mut files = case.files;
             for file in OBJECTS..=PAYLOAD {
                 files.body[file] = sample::sample().body[file].clone();
             }
             self.call(&files)?;
         }
+        Ok(())
+    }
+
+    /// The sample with a fault in its table, in its store, or in object 0.
+    fn faults(&mut self) -> Result<(), String> {
+        self.tables(faults::tables())?;
         let stores = faults::stores().into_iter().filter(|case| small(&case.files));
         for case in stores.step_by(4) {
             let mut files = sample::table();
@@ -90,11 +129,11 @@ impl ListRecording {
 }
 
 /// Which cases a listing is one of.
-fn classes(files: &Files, answer: &Answer) -> Vec<String> {
+fn classes(files: &Files, answer: &Answer) -> Result<Vec<String>, String> {
     let text = match answer {
         Answer::Found { text, .. } => text,
-        Answer::Refused(refusal) => return vec![format!("refused {}", refusal.number)],
-        _ => return vec!["no listing".into()],
+        Answer::Refused(refusal) => return Ok(vec![format!("refused {}", refusal.number)]),
+        _ => return Ok(vec!["no listing".into()]),
     };
     let mut out = vec![format!("tagged size {}, unit {}", files.layout(0), files.layout(1))];
     for value in 3..=11 {
@@ -115,10 +154,17 @@ fn classes(files: &Files, answer: &Answer) -> Vec<String> {
         (_, 6) => out.push("length without code".into()),
         _ => {}
     }
-    out.extend(lines[6..].iter().flat_map(|line| line_classes(line)));
+    let port = Port::new(files, TABLE | STORE)?;
+    let listed = decode::all(&port, port.code(0)).map_err(|refusal| refusal.to_string())?;
+    for (line, ins) in lines[6..].iter().zip(&listed) {
+        match port.flow(ins).named {
+            true => out.extend(line_classes(line)),
+            false => out.extend(flow_cases::classes(&port, 0, ins)),
+        }
+    }
     out.sort();
     out.dedup();
-    out
+    Ok(out)
 }
 
 /// By an instruction line: the name, a target or none, entries.
@@ -177,7 +223,9 @@ fn entries(line: &str) -> &'static str {
 /// Classes that must have a case.
 pub fn wanted() -> Vec<String> {
     let mut out: Vec<String> = Vec::new();
-    out.extend([1, 2, 3, 4, 5, 6, 7, 8, 9, 11, 12, 13, 14, 15, 16].map(|n| format!("refused {n}")));
+    out.extend(
+        [1, 2, 3, 26, 4, 5, 6, 7, 8, 9, 11, 12, 13, 14, 15, 16].map(|n| format!("refused {n}")),
+    );
     for ts in [4, 8] {
         out.extend([0, 4, 8].map(|unit| format!("tagged size {ts}, unit {unit}")));
     }
@@ -204,6 +252,7 @@ pub fn wanted() -> Vec<String> {
             out.push(format!("{name}: {kind}, prefixed"));
         }
     }
+    out.extend(flow_cases::wanted());
     out
 }
 

@@ -2,6 +2,7 @@
 //! codes for them.
 
 use crate::codes::{self, Pools};
+use crate::flows::{Flow, SWITCHES_ON};
 use crate::random::Random;
 use crate::records::*;
 use crate::sample;
@@ -114,11 +115,11 @@ pub fn code(r: &mut Random, files: &Files, pool: &Elements) -> Vec<u8> {
 
 /// A jump or a switch, with numbers near those of the pool's elements.
 fn flowing(r: &mut Random, files: &Files, pool: &Elements, out: &mut Vec<u8>) {
-    let is_named = |k: &usize| {
-        let name = name(Opcode(files.record(OPCODES, *k)).name());
-        JUMPS.contains(&name.as_str()) || SWITCHES.contains(&name.as_str())
+    let flows = |k: &usize| {
+        let flow = Flow::of(&Opcode(files.record(OPCODES, *k)));
+        flow.jumps() || flow.kind == SWITCHES_ON
     };
-    let named: Vec<usize> = (0..files.count(OPCODES)).filter(is_named).collect();
+    let flowing: Vec<usize> = (0..files.count(OPCODES)).filter(flows).collect();
     let mut scale = 1;
     if r.once_in(4) {
         let by = 1 + r.below(2) as u8;
@@ -127,7 +128,7 @@ fn flowing(r: &mut Random, files: &Files, pool: &Elements, out: &mut Vec<u8>) {
             scale = 2 * by as usize;
         }
     }
-    let opcode = *r.pick(&named);
+    let opcode = *r.pick(&flowing);
     out.push(opcode as u8);
     let record = Opcode(files.record(OPCODES, opcode));
     let codes = &record.codes()[..record.operands()];

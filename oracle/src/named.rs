@@ -38,13 +38,14 @@ pub fn record() -> Result<NamedRecording, String> {
     out.case("a listing of 65,536 bytes", &sizes[0])?;
     out.case("a listing of 65,537 bytes", &sizes[1])?;
     out.limits()?;
+    out.flows()?;
     Ok(out)
 }
 
 /// The switch's count is of type Imm.
 fn counted(files: &Files) -> Files {
     let mut files = files.clone();
-    files.body[OPCODES][9 * 64 + 43] = 9;
+    files.body[OPCODES][9 * OPCODE_SIZE + 43] = 9;
     files
 }
 
@@ -84,6 +85,28 @@ impl NamedRecording {
         let most = repeated(&smi(2, [0, 4_096, 5]));
         self.case("a switch of 4,096 entries under Wide", &most)?;
         self.case("a switch of 4,097 entries under Wide", &repeated(&smi(2, [0, 4_097, 5])))
+    }
+
+    /// Names with a flow that is not theirs, one behind the other: by an operand, by the pool, without the operand, as switches.
+    fn flows(&mut self) -> Result<(), String> {
+        let names = ["JumpIfForInDone", "JumpLoop", "Return"];
+        for (title, codes, flow, operands) in [
+            ("flow 3 of three names", &[11][..], [3, 0, 0, 0], &[4][..]),
+            ("flow 4 of three names", &[11], [4, 0, 0, 0], &[4]),
+            ("flow 3 of three names, by the pool", &[10], [3, 1, 0, 0], &[2]),
+            ("flow 3 of three names, no such operand", &[11], [3, 0, 1, 0], &[4]),
+            ("flow 5 of three names", &[0, 10, 11, 9], [5, 0, 1, 1], &[0xfa, 2, 1, 7]),
+            ("flow 0 of three names", &[10, 11, 9], [0, 0, 0, 0], &[0, 3, 7]),
+        ] {
+            let code = (0x0c..0x0f).flat_map(|opcode| [&[opcode], operands].concat());
+            let code: Vec<u8> = code.chain([0x0b]).collect();
+            let mut files = sample::function(&code, 8, &[Some(4), None, Some(9)]);
+            for name in names {
+                files.body[OPCODES].extend(flow_record(name, 0, codes, flow));
+            }
+            self.case(title, &files)?;
+        }
+        Ok(())
     }
 
     /// Files longer than a program reads: the first bytes of this file, as a part of it.

@@ -1,7 +1,8 @@
 //! Record files as the Rust's own structures.
 
+use crate::flows::Flow;
 use crate::records::*;
-use jscd::bytecode::{Decoder, FamilyLayout};
+use jscd::bytecode::{Decoder, FamilyLayout, Instr};
 use jscd::disasm::Disassembler;
 use jscd::header::HeaderLayout;
 use jscd::serializer as ser;
@@ -16,10 +17,15 @@ pub fn bit(file: usize) -> u8 {
     1 << file
 }
 
+/// Stands behind the name of an opcode whose flow is not that of its name: the Rust goes by names, and is to find no flow there.
+pub const NOT_BY_NAME: char = '!';
+
 pub struct Port<'a> {
     pub table: VersionTable,
     pub cache: ser::CodeCache<'a>,
     objects: usize,
+    /// By opcode.
+    flows: Vec<Flow>,
 }
 
 impl<'a> Port<'a> {
@@ -47,12 +53,14 @@ impl<'a> Port<'a> {
     fn of_function(files: &'a Files, lent: u8, function: usize) -> Result<Port<'a>, String> {
         let has = |file| lent & bit(file) != 0;
         let mut table = empty_table();
+        let mut flows = Vec::new();
         if has(LAYOUT) {
             set_layout(&mut table, files);
         }
         if has(OPCODES) {
             table.operand_types = operand_types(files)?;
             table.bytecodes = files.all(OPCODES).map(|r| bytecode(files, Opcode(r))).collect();
+            flows = files.all(OPCODES).map(|r| Flow::of(&Opcode(r))).collect();
         }
         for (file, names) in
             [(RUNTIME, &mut table.runtime_names), (INTRINSIC, &mut table.intrinsic_names)]
@@ -70,7 +78,7 @@ impl<'a> Port<'a> {
         let count = objects.len();
         objects.extend(added(function));
         let cache = ser::CodeCache::open_new(payload, table.tagged_size as usize, objects);
-        Ok(Port { table, cache, objects: count })
+        Ok(Port { table, cache, objects: count, flows })
     }
 
     /// The same table with the store of other files, which have passed the checks.
@@ -81,7 +89,12 @@ impl<'a> Port<'a> {
         objects.extend(added(0));
         let ts = self.table.tagged_size as usize;
         let cache = ser::CodeCache::open_new(&files.body[PAYLOAD], ts, objects);
-        Port { table: self.table, cache, objects: count }
+        Port { table: self.table, cache, objects: count, flows: self.flows }
+    }
+
+    /// What an instruction does, by its opcode's record.
+    pub fn flow(&self, ins: &Instr) -> Flow {
+        self.flows[ins.opcode as usize]
     }
 
     pub fn layout(&self) -> FamilyLayout {
@@ -237,8 +250,12 @@ fn operand_types(files: &Files) -> Result<HashMap<String, OperandTypeInfo>, Stri
 
 fn bytecode(files: &Files, record: Opcode) -> BytecodeDef {
     let codes = &record.codes()[..record.operands()];
+    let mut name_given = name(record.name());
+    if !Flow::of(&record).named {
+        name_given.push(NOT_BY_NAME);
+    }
     BytecodeDef {
-        name: name(record.name()),
+        name: name_given,
         operands: codes
             .iter()
             .map(|c| name(Type(files.record(TYPES, *c as usize)).name()))

@@ -1,8 +1,10 @@
-//! What the programs jscd_list, jscd_walk and file_cases are run on in the gate, and what they must
-//! print: the listing as the Rust says it, the walk as document 01 does.
+//! What the programs jscd_list, jscd_walk, jscd_convert and file_cases are run on in the gate, and what
+//! they must print: the listing as the Rust says it, the walk as document 01 does, the conversion as
+//! document 02 does.
 
-use crate::ask::{ask, ask_with, Call, LISTING, WALK, WALK_WITH};
+use crate::ask::{ask, ask_with, Answer, Call, LISTING, TO_NEW, TO_OLD, WALK, WALK_WITH};
 use crate::checks::PROGRAM_FILE;
+use crate::convert::old_opcodes;
 use crate::handlers::{self, Handler};
 use crate::records::*;
 use crate::sample;
@@ -89,7 +91,7 @@ const RECORDS: [&str; 9] = [
     ".",
 ];
 
-/// The walks of `06 02 0b` with each of these.
+/// The walks of `06 02 0b` with each of these, by the option in front of its set.
 const HANDLED: [&str; 9] = [
     "walk: 06 02 0b, a handler at 1",
     "walk: 06 02 0b, handlers at 1 and at 2, the last one at 2",
@@ -105,25 +107,50 @@ const HANDLED: [&str; 9] = [
 /// The set that has `06 02 0b`.
 const P12_SET: usize = 8;
 
-/// The data folders, arguments and outputs of the three programs.
+/// Behind these: the option and its file, and the files of the usual names.
+const USUAL_HANDLED: &str = "walk: a handler at 1, the usual names not as arguments";
+
+/// Numbers of arguments that neither program takes, and the listing program with the option.
+const WRONG_COUNTS: [&str; 7] = [
+    "list: seven files",
+    "walk: nine files",
+    "walk: the option alone",
+    "walk: the option, its file and seven files",
+    "list: the option, its file and eight files",
+    "list: all arguments",
+    "walk: all arguments",
+];
+
+/// The conversions: a word and the opcodes; what is refused or no way prints nothing.
+const CONVERSIONS: [(&str, &str, &str); 5] = [
+    ("convert: new", "new", "old.bin"),
+    ("convert: old", "old", "opcodes.bin"),
+    ("convert: old, a flow that is not its name's", "old", "other_flow.bin"),
+    ("convert: new, records of 72 bytes", "new", "opcodes.bin"),
+    ("convert: no such way", "either", "opcodes.bin"),
+];
+
+/// The data folders, arguments and outputs of the four programs.
 pub fn record() -> Result<Tree, String> {
     let mut tree = Tree::new();
     tree.insert("jscd_list/stdout".into(), said(&sample::sample(), LISTING)?.into_bytes());
+    tree.insert("jscd_walk/stdout".into(), said(&walk_files(), WALK)?.into_bytes());
     for (program, files) in [("jscd_list", sample::sample()), ("jscd_walk", walk_files())] {
         for (name, body) in NAMES.iter().zip(files.body) {
             tree.insert(format!("{program}/data/{name}"), body);
         }
     }
-    // The walk program is run with its option: a handler at the byte behind the prefix.
-    let files = walk_files();
-    let records = records(&[(0, 1, 1)]);
-    tree.insert("jscd_walk/stdout".into(), said_with(&files, &records)?.into_bytes());
-    tree.insert("jscd_walk/data/handlers.bin".into(), records);
-    let words = ["--handlers", "handlers.bin"].into_iter().chain(NAMES);
-    tree.insert("jscd_walk/args".into(), words.map(|word| format!("{word}\n")).collect::<String>().into_bytes());
+    // For its option, by hand: a handler at the byte behind the prefix.
+    tree.insert("jscd_walk/data/handlers.bin".into(), records(&[(0, 1, 1)]));
+    // The conversion is run on the sample's opcodes as document 01 has them, and gives those that jscd_list reads.
+    let [opcodes, types, ..] = sample::sample().body;
+    tree.insert("jscd_convert/data/old.bin".into(), old_opcodes(&opcodes));
+    tree.insert("jscd_convert/data/types.bin".into(), types);
+    tree.insert("jscd_convert/args".into(), b"new\nold.bin\ntypes.bin\n".to_vec());
+    tree.insert("jscd_convert/stdout".into(), opcodes);
     let data = case_files();
     tree.insert("file_cases/args".into(), arguments().into_bytes());
-    tree.insert("file_cases/stdout".into(), case_output(&data)?.into_bytes());
+    tree.insert("file_cases/stdout".into(), case_output(&data)?);
     for (name, body) in data {
         tree.insert(format!("file_cases/data/{name}"), body);
     }
@@ -183,7 +210,11 @@ fn case_files() -> BTreeMap<&'static str, Vec<u8>> {
     files.body[SLOTS] = Slot { index: 1, kind: 4, length, ..Slot::default() }.bytes();
     files.body[PAYLOAD] = payload(BOTH_NAMES);
     let mut prefix_3 = files.body[OPCODES].clone();
-    prefix_3[4 * 64 + 40] = 3;
+    prefix_3[4 * OPCODE_SIZE + 40] = 3;
+    // JumpLoop, which then goes on in the wrong direction.
+    let mut other_flow = files.body[OPCODES].clone();
+    other_flow[7 * OPCODE_SIZE + 50] = 2;
+    let old = old_opcodes(&files.body[OPCODES]);
     let mut full = payload(SAMPLE_CODE);
     full.resize(PROGRAM_FILE, 0);
     let mut long = full.clone();
@@ -206,6 +237,8 @@ fn case_files() -> BTreeMap<&'static str, Vec<u8>> {
         ("switch_slots.bin", slots),
         ("switch.bin", switch),
         ("prefix_3.bin", prefix_3),
+        ("other_flow.bin", other_flow),
+        ("old.bin", old),
         ("kind_6.bin", kind_6),
         ("empty.bin", payload(&[])),
         ("not_held.bin", not_held),
@@ -237,15 +270,22 @@ fn names(set: usize) -> [&'static str; 8] {
     out
 }
 
-/// One name a line.
+/// One word a line: the sets, the option with its file in front of `06 02 0b`, and the conversions.
 fn arguments() -> String {
-    let sets = (0..SETS.len()).flat_map(names);
-    sets.chain(RECORDS).map(|name| format!("{name}\n")).collect()
+    let mut words: Vec<&str> = (0..SETS.len()).flat_map(names).collect();
+    for file in RECORDS {
+        words.extend(["--handlers", file]);
+        words.extend(names(P12_SET));
+    }
+    for (_, way, opcodes) in CONVERSIONS {
+        words.extend([way, opcodes, NAMES[TYPES]]);
+    }
+    words.iter().map(|word| format!("{word}\n")).collect()
 }
 
 /// Each case's title and answer; where a file is missing, and for a wrong number of arguments, there is
 /// none.
-fn case_output(data: &BTreeMap<&str, Vec<u8>>) -> Result<String, String> {
+fn case_output(data: &BTreeMap<&str, Vec<u8>>) -> Result<Vec<u8>, String> {
     let mut out = String::new();
     for (title, function, set) in CASES {
         out += &format!("{title}\n");
@@ -259,9 +299,40 @@ fn case_output(data: &BTreeMap<&str, Vec<u8>>) -> Result<String, String> {
             out += &said_with(&files, records)?;
         }
     }
-    let count = 8 * SETS.len() + RECORDS.len();
-    out += &format!("list: {count} arguments\nwalk: {count} arguments\n");
+    out += &format!("{USUAL_HANDLED}\n");
+    if let (Some(files), Some(records)) = (set_files(data, 0), data.get(RECORDS[0])) {
+        out += &said_with(&files, records)?;
+    }
+    for title in WRONG_COUNTS {
+        out += &format!("{title}\n");
+    }
+    let mut out = out.into_bytes();
+    for (title, way, opcodes) in CONVERSIONS {
+        out.extend(format!("{title}\n").into_bytes());
+        if let Some(file) = converted(data, way, opcodes)? {
+            out.extend(file);
+        }
+    }
     Ok(out)
+}
+
+/// The opcode file that a conversion prints; none where it is refused.
+fn converted(
+    data: &BTreeMap<&str, Vec<u8>>,
+    way: &str,
+    opcodes: &str,
+) -> Result<Option<Vec<u8>>, String> {
+    let function = match way {
+        "new" => TO_NEW,
+        "old" => TO_OLD,
+        _ => return Ok(None),
+    };
+    let Some(mut files) = set_files(data, 0) else { return Ok(None) };
+    files.body[OPCODES] = data[opcodes].clone();
+    match ask(&files, &[], &Call::new(function, &[65_536]))? {
+        Answer::Written(file) => Ok(Some(file)),
+        _ => Ok(None),
+    }
 }
 
 /// The eight files of a set, where all are there.
@@ -275,7 +346,23 @@ fn set_files(data: &BTreeMap<&str, Vec<u8>>, set: usize) -> Option<Files> {
 mod tests {
     use super::*;
 
-    /// The files of the three programs are what is made today.
+    /// What file_cases prints; the converted files have bytes that are no text.
+    fn printed() -> String {
+        String::from_utf8_lossy(&record().unwrap()["file_cases/stdout"]).into_owned()
+    }
+
+    /// There and back in file_cases; what is refused prints nothing.
+    #[test]
+    fn conversions_show() {
+        let data = case_files();
+        let file = |way, opcodes| converted(&data, way, opcodes).unwrap();
+        assert_eq!(file("new", "old.bin").as_ref(), data.get("opcodes.bin"));
+        assert_eq!(file("old", "opcodes.bin").as_ref(), data.get("old.bin"));
+        assert_eq!(file("old", "other_flow.bin"), None);
+        assert_eq!(file("new", "opcodes.bin"), None);
+    }
+
+    /// The files of the four programs are what is made today.
     #[test]
     fn the_programs_files_are_current() {
         let crates = Path::new(env!("CARGO_MANIFEST_DIR")).join("../crates");
@@ -287,7 +374,7 @@ mod tests {
     /// Wish 4: empty code is closed, and a length that no run holds is 19; both list their header alone.
     #[test]
     fn empty_code_shows() {
-        let output = String::from_utf8(record().unwrap()["file_cases/stdout"].clone()).unwrap();
+        let output = printed();
         assert!(output.contains("\nwalk: empty code\nclosed\n"));
         assert!(output.contains("\nwalk: length 11, in no run\nrefused 19 at 0\n"));
         for (title, length) in [("empty code", 0), ("length 11, in no run", 11)] {
@@ -303,21 +390,35 @@ mod tests {
     #[test]
     fn handlers_show() {
         let tree = record().unwrap();
-        let text = |path: &str| String::from_utf8(tree[path].clone()).unwrap();
-        assert_eq!(text("jscd_walk/stdout"), "leaves steps 1 from 0\n");
-        assert_eq!(said(&walk_files(), WALK).unwrap(), "leaves steps 2 from 4\n");
-        let output = text("file_cases/stdout");
-        let said = ["leaves steps 1 from 0", "closed", "closed", "refused 25 at 1", "refused 24 at 0"];
-        for (title, said) in HANDLED.iter().zip(said.into_iter().chain(["refused 24 at 0", "closed"])) {
+        assert_eq!(tree["jscd_walk/stdout"], b"leaves steps 2 from 4\n");
+        let records = &tree["jscd_walk/data/handlers.bin"];
+        assert_eq!(said_with(&walk_files(), records).unwrap(), "leaves steps 1 from 0\n");
+        let output = printed();
+        let said =
+            ["leaves steps 1 from 0", "closed", "closed", "refused 25 at 1", "refused 24 at 0"];
+        for (title, said) in
+            HANDLED.iter().zip(said.into_iter().chain(["refused 24 at 0", "closed"]))
+        {
             assert!(output.contains(&format!("\n{title}\n{said}\n")), "{title}");
         }
+        assert!(output.contains(&format!("\n{USUAL_HANDLED}\nleaves steps 1 from 0\n")));
+    }
+
+    /// Wish 6: what the conversion prints is what the listing program reads.
+    #[test]
+    fn the_conversion_shows() {
+        let tree = record().unwrap();
+        let mut files = sample::sample();
+        files.body[OPCODES] = tree["jscd_convert/data/old.bin"].clone();
+        let said = ask(&files, &[], &Call::new(TO_NEW, &[65_536])).unwrap();
+        assert_eq!(said, Answer::Written(tree["jscd_convert/stdout"].clone()));
+        assert_eq!(tree["jscd_convert/stdout"], tree["jscd_list/data/opcodes.bin"]);
     }
 
     /// A runtime name and an intrinsic name show, and not one for the other.
     #[test]
     fn both_names_show() {
-        let listing = record().unwrap()["file_cases/stdout"].clone();
-        let listing = String::from_utf8(listing).unwrap();
+        let listing = printed();
         assert!(listing.contains("CallRuntime [LoadLookupSlotForCall], r0-r0\n"));
         assert!(listing.contains("InvokeIntrinsic [_AsyncFunctionAwaitCaught], r0-r0\n"));
     }

@@ -3,6 +3,7 @@
 //! code. Object 1 is the pool: small integers that follow each other are one run, any other element is a reference.
 
 use crate::records::*;
+use crate::v8;
 use serde_json::Value;
 use std::collections::BTreeMap;
 use std::path::Path;
@@ -28,21 +29,11 @@ pub fn functions(folder: &Path) -> Result<Vec<Real>, String> {
         let case: Value = serde_json::from_str(line).map_err(|_| wrong())?;
         let v8 = case["v8"].as_str().ok_or_else(wrong)?.to_string();
         if !tables.contains_key(&v8) {
-            tables.insert(v8.clone(), table(&folder.join("tables").join(&v8))?);
+            tables.insert(v8.clone(), v8::tables(&folder.join("tables").join(&v8))?);
         }
         out.push(function(&case, &v8, &tables[&v8], k).ok_or_else(wrong)?);
     }
     Ok(out)
-}
-
-/// The five table files of a folder; there is no store.
-pub fn table(folder: &Path) -> Result<Files, String> {
-    let mut files = Files::default();
-    for file in OPCODES..=LAYOUT {
-        let path = folder.join(NAMES[file]);
-        files.body[file] = std::fs::read(&path).map_err(|e| format!("{}: {e}", path.display()))?;
-    }
-    Ok(files)
 }
 
 fn function(case: &Value, v8: &str, table: &Files, k: usize) -> Option<Real> {

@@ -41,6 +41,9 @@ pub fn record(seed: u64) -> Result<Recording, String> {
             out.random(&mut r, ts, unit)?;
         }
     }
+    for case in faults::flow_tables() {
+        out.table(&case)?;
+    }
     Ok(out)
 }
 
@@ -146,6 +149,7 @@ mod tests {
         let oracle = std::path::Path::new(env!("CARGO_MANIFEST_DIR"));
         let replay = ["rows.vec", "store.vec", "slots.vec", "code.vec", "v8.vec"];
         let replay = replay.iter().chain(&crate::write_recording::PARTS);
+        let replay = replay.chain(&crate::convert_recording::PARTS);
         let replay = replay.map(|name| ("replay", *name));
         let relist = [
             "rows.vec",

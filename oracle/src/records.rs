@@ -1,5 +1,6 @@
-//! Document 01's eight record files: reading them, writing them, and their fields.
+//! Document 01's eight record files, with document 02's opcode records: reading them, writing them, and their fields.
 
+use crate::flows;
 use std::path::Path;
 
 pub const OPCODES: usize = 0;
@@ -22,8 +23,12 @@ pub const NAMES: [&str; 8] = [
     "payload.bin",
 ];
 
+/// Bytes of an opcode record (document 02's Wish 6), and of one before (document 01).
+pub const OPCODE_SIZE: usize = 72;
+pub const OLD_OPCODE_SIZE: usize = 64;
+
 /// Bytes of a record in each file.
-pub const SIZES: [usize; 8] = [64, 32, 64, 64, 80, 16, 24, 1];
+pub const SIZES: [usize; 8] = [OPCODE_SIZE, 32, 64, 64, 80, 16, 24, 1];
 
 /// A layout value that is not there.
 pub const ABSENT: u32 = u32::MAX;
@@ -101,7 +106,7 @@ pub fn name(field: &[u8]) -> String {
     String::from_utf8_lossy(&field[..end]).into_owned()
 }
 
-/// Fields of an opcode record.
+/// Fields of an opcode record, or of one before Wish 6, which has no flow.
 pub struct Opcode<'a>(pub &'a [u8]);
 
 impl<'a> Opcode<'a> {
@@ -117,10 +122,18 @@ impl<'a> Opcode<'a> {
     pub fn codes(&self) -> &'a [u8] {
         &self.0[42..50]
     }
+    /// Bytes 50 to 53.
+    pub fn flow(&self) -> Option<[u8; 4]> {
+        (self.0.len() == OPCODE_SIZE).then(|| self.0[FLOW..FLOW + 4].try_into().unwrap())
+    }
+    /// The zeros.
     pub fn rest(&self) -> &'a [u8] {
-        &self.0[50..]
+        &self.0[if self.flow().is_some() { FLOW + 4 } else { FLOW }..]
     }
 }
+
+/// Where the flow stands in an opcode record.
+pub const FLOW: usize = 50;
 
 /// Fields of a type record.
 pub struct Type<'a>(pub &'a [u8]);
@@ -212,11 +225,19 @@ fn padded(name: &str, width: usize) -> Vec<u8> {
     out
 }
 
+/// An opcode record with the flow of its name.
 pub fn opcode_record(name: &str, prefix: u8, codes: &[u8]) -> Vec<u8> {
+    flow_record(name, prefix, codes, flows::of_name(name))
+}
+
+/// An opcode record with this flow.
+pub fn flow_record(name: &str, prefix: u8, codes: &[u8], flow: [u8; 4]) -> Vec<u8> {
     let mut out = padded(name, 40);
     out.extend([prefix, codes.len() as u8]);
     out.extend(codes);
-    out.resize(64, 0);
+    out.resize(FLOW, 0);
+    out.extend(flow);
+    out.resize(OPCODE_SIZE, 0);
     out
 }
 

@@ -1,9 +1,10 @@
 //! Tables of switches. The Rust compares the whole name, so that a switch under a prefix has no table there; V8's iterator follows
 //! tables at every scale, and Wish 1 holds such a line to V8. This is the one place where entries are the oracle's own reading, of V8's
-//! sources (`by_v8`), over the Rust's decoded operands and its `array_elem`. Of every other instruction the Rust is asked.
+//! sources (`by_v8`), over the Rust's decoded operands and its `array_elem`; those of an opcode whose flow is not that of its name
+//! (Wish 6) too. Of every other instruction the Rust is asked.
 
-use crate::decode::plain;
-use crate::port::Port;
+use crate::flows::{self, SWITCHES_ON};
+use crate::port::{Port, NOT_BY_NAME};
 use jscd::bytecode::{Instr, Operand};
 use jscd::serializer::Elem;
 
@@ -19,8 +20,9 @@ pub struct Table {
     base: i64,
 }
 
-/// At any scale.
-pub fn table(ins: &Instr) -> Option<Table> {
+/// At any scale, of the instructions whose flow is 5: table, length and, where there is one, case base are the operands from the first
+/// used on.
+pub fn table(port: &Port, ins: &Instr) -> Option<Table> {
     let index = |k: usize| match ins.operands.get(k)? {
         Operand::Idx(v) => Some(*v),
         _ => None,
@@ -29,18 +31,19 @@ pub fn table(ins: &Instr) -> Option<Table> {
         Operand::Imm(v) => Some(*v),
         _ => index(k).map(i64::from),
     };
-    let (start, count_at, base) = match plain(ins) {
-        "SwitchOnSmiNoFeedback" => (index(0)?, 1, number(2)?),
-        "SwitchOnGeneratorState" => (index(1)?, 2, 0),
-        _ => return None,
-    };
-    Some(Table { start, count: number(count_at)?, count_at, base })
+    let flow = port.flow(ins);
+    if flow.kind != SWITCHES_ON {
+        return None;
+    }
+    let count_at = flow.first + 1;
+    let base = if flow.base { number(flow.first + 2)? } else { 0 };
+    Some(Table { start: index(flow.first)?, count: number(count_at)?, count_at, base })
 }
 
 /// The table of an instruction whose count has passed number 16; none where it has no table. `function` is the object whose pool is meant.
 pub fn entries(port: &Port, function: usize, ins: &Instr) -> Option<Entries> {
-    match ins.scale {
-        1 => port.disassembler().open_jump_table(function, ins),
+    match (ins.scale, port.flow(ins).named) {
+        (1, true) => port.disassembler().open_jump_table(function, ins),
         _ => by_v8(port, function, ins),
     }
 }
@@ -50,7 +53,7 @@ pub fn entries(port: &Port, function: usize, ins: &Instr) -> Option<Entries> {
 /// GetAbsoluteOffset of the element: current_offset + relative_offset + prefix_size. Which kinds of operands are taken, and that
 /// numbers wrap, is document 01's.
 fn by_v8(port: &Port, function: usize, ins: &Instr) -> Option<Entries> {
-    let table = table(ins)?;
+    let table = table(port, ins)?;
     let pool = port.pool(function)?;
     let prefix_size = if ins.scale > 1 { 1 } else { 0 };
     let entry = |k: i64| {
@@ -69,17 +72,26 @@ fn by_v8(port: &Port, function: usize, ins: &Instr) -> Option<Entries> {
 const HEADER: usize = 6;
 
 /// The listing of object 0, whose instructions are `listed`: header and lines of `render_sfi`, and in the line of a switch under a prefix
-/// the entries too, as `render_sfi` writes them of other switches. An error is the Rust's.
+/// the entries too, as `render_sfi` writes them of other switches. Where the flow is not that of the name, `render_sfi` knows the name as
+/// none and writes neither target nor entries: they are added here. An error is the Rust's.
 pub fn listing(port: &Port, listed: &[Instr]) -> Result<String, String> {
     let mut whole = String::new();
     port.disassembler().open_render_sfi(port.shared_function_info(), "", &mut whole)?;
     let lines = whole.lines().skip(1).take_while(|line| !line.starts_with("Constant pool"));
     let mut out = String::with_capacity(whole.len());
     for (k, line) in lines.enumerate() {
-        out += line;
-        let ins = k.checked_sub(HEADER).and_then(|k| listed.get(k));
-        if let Some(ins) = ins.filter(|ins| ins.scale > 1) {
-            out += &entries(port, 0, ins).map_or(String::new(), shown);
+        match k.checked_sub(HEADER).and_then(|k| listed.get(k)) {
+            Some(ins) if !port.flow(ins).named => {
+                out += &line.replacen(NOT_BY_NAME, "", 1);
+                let target = flows::target(port, 0, ins);
+                out += &target.map_or(String::new(), |to| format!(" (jscd @ {to})"));
+                out += &entries(port, 0, ins).map_or(String::new(), shown);
+            }
+            Some(ins) if ins.scale > 1 => {
+                out += line;
+                out += &entries(port, 0, ins).map_or(String::new(), shown);
+            }
+            _ => out += line,
         }
         out.push('\n');
     }
@@ -94,7 +106,7 @@ fn shown(entries: Entries) -> String {
 #[cfg(test)]
 mod tests {
     use super::*;
-    use crate::decode;
+    use crate::decode::{self, plain};
     use crate::port::{STORE, TABLE};
     use crate::random::Random;
     use crate::records::*;
@@ -150,7 +162,7 @@ mod tests {
             let pool: Vec<Option<i32>> =
                 (0..r.below(9)).map(|_| (!r.once_in(3)).then(|| r.next() as i32)).collect();
             with(&code, &pool, |port, listed| {
-                let few = table(&listed[0]).is_some_and(|table| table.count <= 300);
+                let few = table(port, &listed[0]).is_some_and(|table| table.count <= 300);
                 if few {
                     let plain = Instr { name: plain(&listed[0]).into(), ..listed[0].clone() };
                     let rust = port.disassembler().open_jump_table(0, &plain);

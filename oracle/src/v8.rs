@@ -2,6 +2,7 @@
 //! text taken from V8's line. The Rust is asked for the same only to count where it differs.
 
 use crate::ask::{ask, Answer, Call, INSTRUCTION_TEXT};
+use crate::convert;
 use crate::records::*;
 use crate::vectors::Writer;
 use serde_json::Value;
@@ -128,7 +129,7 @@ pub fn tables(folder: &Path) -> Result<Files, String> {
         let path = folder.join(NAMES[file]);
         files.body[file] = std::fs::read(&path).map_err(|e| format!("{}: {e}", path.display()))?;
     }
-    Ok(files)
+    Ok(convert::loaded(files))
 }
 
 fn case(line: &str) -> Option<Case> {

@@ -241,6 +241,7 @@ fn arguments(kind: u8, body: &[u8]) -> Option<Call> {
 #[cfg(test)]
 mod tests {
     use super::*;
+    use crate::records::{OPCODES, OPCODE_SIZE};
     use crate::sample;
 
     #[test]
@@ -262,12 +263,15 @@ mod tests {
         writer.files(&sample::sample());
         let one_fewer = {
             let mut files = sample::sample();
-            files.body[crate::records::OPCODES].drain(..64);
+            files.body[OPCODES].drain(..OPCODE_SIZE);
             files
         };
         let at = writer.out.len();
         writer.files(&one_fewer);
-        assert_eq!(writer.out[at..], [16, 8, 0, 0, 0, 5 + 64, 0, 0, 0, 192, 2, 0, 0]);
+        let [low, high] = (11 * OPCODE_SIZE as u16).to_le_bytes();
+        let (from, part) = (5 + OPCODE_SIZE as u8, [low, high, 0, 0]);
+        assert_eq!(writer.out[at..at + 9], [16, 8, 0, 0, 0, from, 0, 0, 0]);
+        assert_eq!(writer.out[at + 9..], part);
         writer.call(&Call::new(ask::TABLE_CHECK, &[])).unwrap();
         assert_eq!(replay(&writer.out), Ok(1));
     }

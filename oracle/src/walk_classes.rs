@@ -3,6 +3,8 @@
 
 use crate::ask::*;
 use crate::decode::plain;
+use crate::flow_cases;
+use crate::flows::{Flow, ALWAYS, ENDS, MAYBE, SWITCHES, SWITCHES_ON};
 use crate::handler_classes;
 use crate::handlers::{self, Handler};
 use crate::port::{Port, STORE, TABLE};
@@ -18,6 +20,8 @@ pub struct Asked<'a> {
     pub listed: Vec<Instr>,
     pub steps: Steps,
     entries: Vec<Option<usize>>,
+    /// What each instruction does, and the classes of those whose flow is not that of their name.
+    pub flows: Vec<(Flow, Vec<String>)>,
     pub handlers: Vec<Handler>,
     /// By offset, where an instruction there would throw to; see `painted`.
     pub throws: Vec<Option<usize>>,
@@ -140,7 +144,9 @@ impl<'a> Asked<'a> {
         }
         let entries = |ins: &Instr| switches::entries(port, function, ins).map(|e| e.len());
         let entries = listed.iter().map(entries).collect();
-        Ok(Asked { listed, steps, entries, handlers, throws, code, walked })
+        let flow = |ins: &Instr| (port.flow(ins), flow_cases::classes(port, function, ins));
+        let flows = listed.iter().map(flow).collect();
+        Ok(Asked { listed, steps, entries, flows, handlers, throws, code, walked })
     }
 }
 
@@ -264,13 +270,27 @@ impl Asked<'_> {
     /// What the instructions are that have a mark.
     fn instructions(&self) -> Vec<String> {
         let mut out = Vec::new();
-        for (ins, entries) in self.listed.iter().zip(&self.entries) {
+        for ((ins, entries), (flow, classes)) in
+            self.listed.iter().zip(&self.entries).zip(&self.flows)
+        {
             if !self.walked.marks[ins.offset] {
                 continue;
             }
             let name = plain(ins);
             let prefix = ["", "", " under Wide", "", " under ExtraWide"][ins.scale as usize];
             let listed = |step: &Step| !leaves(&self.steps, *step);
+            if !flow.named {
+                out.extend(classes.iter().cloned());
+                let steps = &self.steps[&ins.offset];
+                let taken = match flow.kind {
+                    SWITCHES_ON => entries.unwrap_or(0),
+                    _ => flow.jumps() as usize,
+                };
+                let to = |step: &Step| if listed(step) { "followed" } else { "leaves" };
+                let steps = steps[..taken].iter().map(to);
+                out.extend(steps.map(|to| format!("flow {}, {to}", flow.kind)));
+                continue;
+            }
             if ENDS.contains(&name) || NEAR.contains(&name) {
                 out.push(format!("{name} reached"));
             } else if ALWAYS.contains(&name) || MAYBE.contains(&name) {
@@ -374,7 +394,7 @@ const OF_OBJECTS: [&str; 11] = [
 ];
 
 /// Refusals of both functions; 9 and 19 are those of an object's code, 10 that of lent code.
-const REFUSALS: [u64; 15] = [1, 2, 3, 4, 5, 6, 7, 8, 11, 12, 13, 14, 15, 16, 18];
+const REFUSALS: [u64; 16] = [1, 2, 3, 26, 4, 5, 6, 7, 8, 11, 12, 13, 14, 15, 16, 18];
 
 pub fn wanted() -> Vec<String> {
     let mut out: Vec<String> = WANTED.iter().map(|class| class.to_string()).collect();
@@ -394,6 +414,10 @@ pub fn wanted() -> Vec<String> {
     }
     out.push("SwitchOnSmiNoFeedback, 4096 entries".into());
     out.push("SwitchOnSmiNoFeedback under Wide, 4096 entries".into());
+    out.extend(flow_cases::wanted());
+    for kind in 2..=5 {
+        out.extend(["followed", "leaves"].map(|to| format!("flow {kind}, {to}")));
+    }
     out.push("an entry to a prefix byte".into());
     out.push("an entry to an opcode byte behind a prefix".into());
     let mut out: Vec<String> = out.iter().map(|class| format!("walk_code: {class}")).collect();

@@ -2,10 +2,11 @@
 //! switches, most of them to instructions, so that walks are long and often closed.
 
 use crate::codes::{self, marked, width_of, Pools};
+use crate::flows::{Flow, ALWAYS, ENDS, MAYBE, SWITCHES};
+use crate::flows::{BRANCHES, JUMPS, JUMPS_BACK, ON, STOPS, SWITCHES_ON};
 use crate::random::Random;
 use crate::records::*;
 use crate::sample;
-use crate::walks::{ALWAYS, ENDS, MAYBE, SWITCHES};
 
 // ---- stores ----
 
@@ -128,14 +129,14 @@ pub fn table(r: &mut Random, pools: &Pools, k: usize) -> Files {
     }
     let mut files = codes::table(r, pools, k);
     let body = &mut files.body[OPCODES];
-    body.truncate(64 * 20);
-    for record in body.chunks_exact_mut(64) {
+    body.truncate(OPCODE_SIZE * 20);
+    for record in body.chunks_exact_mut(OPCODE_SIZE) {
         if record[40] == 0 && !r.once_in(5) {
             record.copy_from_slice(&opcode(r));
         }
     }
     let wanted = 8 + r.below(9) as usize;
-    while body.len() / 64 < wanted {
+    while body.len() / OPCODE_SIZE < wanted {
         body.extend(opcode(r));
     }
     // Something to end on, and something that goes on.
@@ -177,7 +178,7 @@ fn opcode(r: &mut Random) -> Vec<u8> {
 
 /// An instruction that is planned: its place, and its operands' types and bytes.
 struct Planned {
-    name: String,
+    flow: Flow,
     prefix: Option<u8>,
     opcode: u8,
     at: usize,
@@ -206,8 +207,9 @@ impl Planned {
             _ => value >= 0 && value < 1 << bits,
         };
         if fits {
-            let length = bytes.len();
-            bytes.copy_from_slice(&value.to_le_bytes()[..length]);
+            // A list and its count can have more.
+            let length = bytes.len().min(8);
+            bytes[..length].copy_from_slice(&value.to_le_bytes()[..length]);
         }
         fits
     }
@@ -283,28 +285,25 @@ pub fn is_jump(name: &str) -> bool {
     ALWAYS.contains(&name) || MAYBE.contains(&name)
 }
 
-fn is_switch(name: &str) -> bool {
-    SWITCHES.contains(&name)
-}
-
 impl Maker<'_> {
     /// Chooses instructions and their places; operands are any bytes as yet.
     fn choose(&mut self, r: &mut Random, count: usize) {
-        let opcodes: Vec<(usize, String)> =
-            self.files.all(OPCODES).map(|o| name(Opcode(o).name())).enumerate().collect();
+        let opcodes: Vec<(usize, Flow)> =
+            self.files.all(OPCODES).map(|o| Flow::of(&Opcode(o))).enumerate().collect();
         let prefixes = [marked(self.files, 1), marked(self.files, 2)];
         let plain = |k: usize| !prefixes.contains(&Some(k as u8));
-        let of = |test: &dyn Fn(&str) -> bool| -> Vec<usize> {
-            opcodes.iter().filter(|(k, name)| plain(*k) && test(name)).map(|(k, _)| *k).collect()
+        let of = |test: &dyn Fn(&Flow) -> bool| -> Vec<usize> {
+            opcodes.iter().filter(|(k, flow)| plain(*k) && test(flow)).map(|(k, _)| *k).collect()
         };
-        let ends = of(&|name| ENDS.contains(&name));
-        let last = of(&|name| ENDS.contains(&name) || ALWAYS.contains(&name));
+        let ends = of(&|flow| flow.kind == STOPS);
+        let last = of(&|flow| matches!(flow.kind, STOPS | JUMPS | JUMPS_BACK));
         let long = self.manner.long;
-        let jumps = of(&|name| match long {
-            true => MAYBE.contains(&name) || is_switch(name),
-            false => is_jump(name) || is_switch(name),
+        let jumps = of(&|flow| match long {
+            true => matches!(flow.kind, BRANCHES | SWITCHES_ON),
+            false => flow.jumps() || flow.kind == SWITCHES_ON,
         });
-        let others = of(&|name| !is_jump(name) && !is_switch(name) && !ENDS.contains(&name));
+        let on = of(&|flow| flow.kind == ON);
+        let others = if on.is_empty() { of(&|_| true) } else { on };
         for k in 0..count {
             let from = match () {
                 _ if k + 1 == count && !self.manner.faults.contains(&k) && self.manner.bad == 0 => {
@@ -318,11 +317,11 @@ impl Maker<'_> {
             let from = if from.is_empty() { &others } else { from };
             let opcode = *r.pick(from);
             let mark = if r.once_in(4) { 1 + r.below(2) as u8 } else { 0 };
-            self.plan(r, opcode, &opcodes[opcode].1, mark);
+            self.plan(r, opcode, opcodes[opcode].1, mark);
         }
     }
 
-    fn plan(&mut self, r: &mut Random, opcode: usize, name: &str, mark: u8) {
+    fn plan(&mut self, r: &mut Random, opcode: usize, flow: Flow, mark: u8) {
         let prefix = if mark == 0 { None } else { marked(self.files, mark) };
         let scale = if prefix.is_none() { 1 } else { 2 * mark as usize };
         let record = Opcode(self.files.record(OPCODES, opcode));
@@ -335,8 +334,8 @@ impl Maker<'_> {
             let count = if matches!(code, 6 | 7) { width_of(self.files, 8, scale) } else { 0 };
             operands.push((*code, r.bytes(width_of(self.files, *code, scale) + count)));
         }
-        let (name, opcode, at) = (name.to_string(), opcode as u8, self.end);
-        let planned = Planned { name, prefix, opcode, at, operands };
+        let (opcode, at) = (opcode as u8, self.end);
+        let planned = Planned { flow, prefix, opcode, at, operands };
         self.end += planned.length();
         self.plan.push(planned);
     }
@@ -362,33 +361,33 @@ impl Maker<'_> {
 
     /// Sets the operands of the k-th instruction.
     fn fill(&mut self, r: &mut Random, k: usize) {
-        let name = self.plan[k].name.clone();
-        if is_switch(&name) {
-            self.switch(r, k, &name);
-        } else if name.ends_with("Constant") && is_jump(&name) {
-            self.constant(r, k, &name);
-        } else if is_jump(&name) {
+        let flow = self.plan[k].flow;
+        if flow.kind == SWITCHES_ON {
+            self.switch(r, k, flow.first);
+        } else if flow.pool && flow.jumps() {
+            self.constant(r, k, &flow);
+        } else if flow.jumps() {
             // The first try that fits.
             for _ in 0..12 {
                 let distance = self.target(r, k) - self.plan[k].here();
-                let distance = if name == "JumpLoop" { -distance } else { distance };
-                if self.plan[k].put(0, distance) {
+                let distance = if flow.kind == JUMPS_BACK { -distance } else { distance };
+                if self.plan[k].put(flow.first, distance) {
                     return;
                 }
             }
-            self.plan[k].put(0, 0);
+            self.plan[k].put(flow.first, 0);
         }
     }
 
     /// An element that holds the distance, or one that is free.
-    fn constant(&mut self, r: &mut Random, k: usize, name: &str) {
+    fn constant(&mut self, r: &mut Random, k: usize, flow: &Flow) {
         self.reads_pool = true;
         let distance = self.target(r, k) - self.plan[k].here();
-        let distance = if name == "JumpLoopConstant" { -distance } else { distance };
+        let distance = if flow.kind == JUMPS_BACK { -distance } else { distance };
         let numbers: Vec<usize> =
             (0..self.pool.len()).filter(|e| matches!(self.pool[*e], Element::Number(_))).collect();
         if numbers.is_empty() || r.once_in(25) {
-            self.plan[k].put(0, r.below(self.pool.len() as u64 + 2) as i64);
+            self.plan[k].put(flow.first, r.below(self.pool.len() as u64 + 2) as i64);
             return;
         }
         let element = match numbers.iter().find(|e| !self.used[**e]) {
@@ -399,12 +398,11 @@ impl Maker<'_> {
             self.used[element] = true;
             self.pool[element] = Element::Number(distance as i32);
         }
-        self.plan[k].put(0, element as i64);
+        self.plan[k].put(flow.first, element as i64);
     }
 
     /// Some elements, from one on; those that are free get a distance.
-    fn switch(&mut self, r: &mut Random, k: usize, name: &str) {
-        let first = if name == SWITCHES[0] { 0 } else { 1 };
+    fn switch(&mut self, r: &mut Random, k: usize, first: usize) {
         let length = self.pool.len();
         let start = r.below(length as u64) as usize;
         let count = r.below((length - start) as u64 + 1).min(r.below(7)) as usize;

@@ -5,7 +5,8 @@ use crate::ask::*;
 use crate::checks::{MOST_CODE, MOST_ENTRIES};
 use crate::classes::Classes;
 use crate::codes::{self, Pools};
-use crate::faults;
+use crate::faults::{self, Case};
+use crate::flow_cases;
 use crate::random::Random;
 use crate::records::*;
 use crate::sample;
@@ -19,6 +20,9 @@ pub const PARTS: usize = 5;
 const TABLES: usize = 32;
 const CODES: usize = 160;
 const OBJECTS_CODES: usize = 4;
+/// Random tables whose opcodes have other flows than their names, and codes by each.
+const FLOW_TABLES: usize = 20;
+const FLOW_CODES: usize = 50;
 /// Only contents longer than this are looked for in the file.
 const SHORT: usize = 300;
 /// The longest mark buffer that is recorded.
@@ -52,6 +56,13 @@ pub fn record(seed: u64) -> Result<WalkRecording, String> {
     out.prefixed_switches()?;
     out.large_prefixed_switch()?;
     out.empty_codes()?;
+    out.flows()?;
+    // Of their own, so that the other files of a seed are what they were.
+    let mut of_flows = Random::new(seed ^ 6);
+    let pools = codes::pools(&mut of_flows);
+    for k in 0..FLOW_TABLES {
+        out.flow_table(&mut of_flows, &pools, k)?;
+    }
     out.next_file();
     let pools = codes::pools(&mut r);
     for _ in 1..PARTS {
@@ -61,6 +72,10 @@ pub fn record(seed: u64) -> Result<WalkRecording, String> {
         out.next_file();
     }
     Ok(out)
+}
+
+fn small(files: &Files) -> bool {
+    files.body.iter().all(|b| b.len() < 2_000)
 }
 
 impl WalkRecording {
@@ -114,11 +129,10 @@ impl WalkRecording {
         self.call(WALK, &[4])
     }
 
-    /// Tables and stores to be refused.
-    fn faults(&mut self) -> Result<(), String> {
-        let small = |files: &Files| files.body.iter().all(|b| b.len() < 2_000);
+    /// The sample's function, and lent code, by some of these tables.
+    fn tables(&mut self, cases: Vec<Case>) -> Result<(), String> {
         let store = sample::sample();
-        for case in faults::tables().iter().filter(|case| small(&case.files)).step_by(4) {
+        for case in cases.iter().filter(|case| small(&case.files)).step_by(4) {
             let mut files = case.files.clone();
             for file in OBJECTS..=PAYLOAD {
                 files.body[file] = store.body[file].clone();
@@ -128,6 +142,13 @@ impl WalkRecording {
             self.call(WALK_CODE, &[0, 3])?;
             self.walk_code(NO_OBJECT)?;
         }
+        Ok(())
+    }
+
+    /// Tables and stores to be refused.
+    fn faults(&mut self) -> Result<(), String> {
+        self.tables(faults::tables())?;
+        let store = sample::sample();
         for case in faults::stores().iter().filter(|case| small(&case.files)).step_by(5) {
             let mut files = store.clone();
             for file in OBJECTS..=PAYLOAD {
@@ -421,6 +442,49 @@ impl WalkRecording {
     fn on_length(&mut self, files: &Files, length: u64) -> Result<(), String> {
         self.set(files, &[]);
         [0, length - 1, length, MOST_MARKS].iter().try_for_each(|marks| self.call(WALK, &[*marks]))
+    }
+
+    /// Flows at fault; chosen opcodes whose flow is not that of their name, each in a code of its own; and counts of such.
+    fn flows(&mut self) -> Result<(), String> {
+        self.tables(faults::flow_tables())?;
+        for (k, chosen) in flow_cases::chosen().iter().enumerate() {
+            let scales = if k == 1 { &[1, 2][..] } else { &[1, 2, 4] };
+            for scale in scales {
+                for (j, row) in chosen.rows.iter().enumerate() {
+                    let code = flow_cases::code_of(&row.instruction(&chosen.files, *scale));
+                    self.set(&chosen.files, &code);
+                    self.walk_code(0)?;
+                    if j % 6 == 0 {
+                        self.walk_code(NO_OBJECT)?;
+                    }
+                    if j % 12 == 0 {
+                        self.set(&chosen.function(&code), &code);
+                        self.call(WALK, &[code.len() as u64])?;
+                    }
+                }
+            }
+        }
+        for (files, code) in flow_cases::counted(true) {
+            self.set(&files, &code);
+            self.walk_code(0)?;
+            self.call(WALK, &[code.len() as u64])?;
+        }
+        Ok(())
+    }
+
+    /// Codes by a table whose opcodes have other flows than their names.
+    fn flow_table(&mut self, r: &mut Random, pools: &Pools, k: usize) -> Result<(), String> {
+        let mut files = walk_codes::table(r, pools, k);
+        flow_cases::change_flows(r, &mut files);
+        let pool = walk_codes::pool(r);
+        set_store(&mut files, &[], &[], &pool);
+        for _ in 0..FLOW_CODES {
+            let made = walk_codes::code(r, &files, &pool);
+            set_store(&mut files, &[], &[], &made.pool);
+            self.set(&files, &made.code);
+            self.walk_code(if r.once_in(12) { NO_OBJECT } else { 0 })?;
+        }
+        Ok(())
     }
 
     /// Codes by a table.

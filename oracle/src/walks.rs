@@ -1,12 +1,14 @@
-//! The walk check, written from document 01's section "Walks" and document 02's Wishes 4 (empty code) and 5
-//! (exception handlers, in `handlers`). The Rust has none: it decodes and gives jump targets and switch
-//! entries (`switches` those under a prefix), and what the steps of an instruction are is said here.
+//! The walk check, written from document 01's section "Walks" and document 02's Wishes 4 (empty code), 5
+//! (exception handlers, in `handlers`) and 6 (what an opcode does, in its record). The Rust has none: it
+//! decodes and gives jump targets and switch entries (`flows` and `switches` those that it does not give),
+//! and what the steps of an instruction are is said here.
 //!
 //! The sets of offsets reached in exactly 0, 1, 2, .. steps are worked out one after the other, as the
 //! section defines them.
 
 use crate::checks::{self, Refusal};
-use crate::decode::{self, plain};
+use crate::decode;
+use crate::flows;
 use crate::handlers::{self, Handler};
 use crate::port::Port;
 use crate::switches;
@@ -35,44 +37,6 @@ pub type Step = Option<usize>;
 
 /// The listed instructions by offset, each with its steps.
 pub type Steps = BTreeMap<usize, Vec<Step>>;
-
-/// Names that end a walk.
-pub const ENDS: [&str; 5] = ["Return", "SuspendGenerator", "Throw", "ReThrow", "Abort"];
-
-/// Names that go to the target alone.
-pub const ALWAYS: [&str; 4] = ["Jump", "JumpConstant", "JumpLoop", "JumpLoopConstant"];
-
-/// The other names in the list of `jump_target`.
-pub const MAYBE: [&str; 26] = [
-    "JumpIfTrue",
-    "JumpIfTrueConstant",
-    "JumpIfFalse",
-    "JumpIfFalseConstant",
-    "JumpIfToBooleanTrue",
-    "JumpIfToBooleanTrueConstant",
-    "JumpIfToBooleanFalse",
-    "JumpIfToBooleanFalseConstant",
-    "JumpIfNull",
-    "JumpIfNullConstant",
-    "JumpIfNotNull",
-    "JumpIfNotNullConstant",
-    "JumpIfUndefined",
-    "JumpIfUndefinedConstant",
-    "JumpIfUndefinedOrNull",
-    "JumpIfUndefinedOrNullConstant",
-    "JumpIfNotUndefined",
-    "JumpIfNotUndefinedConstant",
-    "JumpIfJSReceiver",
-    "JumpIfJSReceiverConstant",
-    "JumpIfNotHole",
-    "JumpIfNotHoleConstant",
-    "JumpIfReferenceError",
-    "JumpIfReferenceErrorConstant",
-    "JumpIfNotReferenceError",
-    "JumpIfNotReferenceErrorConstant",
-];
-
-pub const SWITCHES: [&str; 2] = ["SwitchOnSmiNoFeedback", "SwitchOnGeneratorState"];
 
 /// The walk over the code of an object, a BytecodeArray, and the refusals from 9 on. By Wish 4 this is
 /// the one place that gives 19: "exactly where it takes its code from an object whose length is positive
@@ -131,16 +95,16 @@ pub fn all_steps(port: &Port, function: usize, listed: &[Instr], handlers: &[Han
 
 fn steps(port: &Port, function: usize, ins: &Instr) -> Vec<Step> {
     let end = Some(ins.offset + ins.bytes.len());
-    let target = || port.disassembler().open_jump_target(function, ins);
-    match plain(ins) {
-        name if ENDS.contains(&name) => Vec::new(),
-        name if ALWAYS.contains(&name) => vec![target()],
-        name if MAYBE.contains(&name) => vec![target(), end],
-        name if SWITCHES.contains(&name) => {
+    let target = || flows::target(port, function, ins);
+    match port.flow(ins).kind {
+        flows::ON => vec![end],
+        flows::STOPS => Vec::new(),
+        flows::JUMPS | flows::JUMPS_BACK => vec![target()],
+        flows::BRANCHES => vec![target(), end],
+        _ => {
             let entries = switches::entries(port, function, ins).unwrap_or_default();
             entries.into_iter().map(|(_, target)| Some(target)).chain([end]).collect()
         }
-        _ => vec![end],
     }
 }
 
@@ -183,6 +147,8 @@ pub fn packed(marks: &[bool]) -> Vec<u8> {
 mod tests {
     use super::*;
     use crate::ask::{ask, Answer, Call, JUMP_TARGET, NO_OBJECT, WALK, WALK_CODE};
+    use crate::decode::plain;
+    use crate::flows::{ALWAYS, ENDS, MAYBE, SWITCHES};
     use crate::port::{STORE, TABLE};
     use crate::random::Random;
     use crate::records::*;
@@ -252,7 +218,7 @@ mod tests {
         // The count as an Imm: -1 is refused where there is a pool, before the buffer is looked at.
         let mut files = files;
         let switch = opcode_record("SwitchOnSmiNoFeedback", 0, &[10, 9, 9]);
-        files.body[OPCODES][9 * 64..10 * 64].copy_from_slice(&switch);
+        files.body[OPCODES][9 * OPCODE_SIZE..10 * OPCODE_SIZE].copy_from_slice(&switch);
         let code = [0x0b, 0x09, 0x00, 0xff, 0x00];
         assert_eq!(walk(&files, &code, 0, 0), "refused 16 at 1");
         assert_eq!(walk(&files, &code, NO_OBJECT, 0), "refused 18 at 0");

@@ -47,8 +47,9 @@ pub fn cases() -> Vec<Case> {
     out.extend(rooms());
     out.extend(registers());
     out.extend(not_read());
-    out.extend(tables());
+    out.extend(tables(faults::tables()));
     out.extend(orders());
+    out.extend(tables(faults::flow_tables()));
     out
 }
 
@@ -303,7 +304,7 @@ fn scales() -> Vec<Case> {
     ] {
         let mut files = whole.clone();
         for opcode in unmarked {
-            files.body[OPCODES][64 * *opcode as usize + 40] = 0;
+            files.body[OPCODES][OPCODE_SIZE * *opcode as usize + 40] = 0;
         }
         for scale in [0, 1, 2, 3, 4, 5, 8, 255, 256, 257, 258, 260, 300, 1 << 32 | 2, u64::MAX] {
             let class = format!("scale {scale}");
@@ -319,8 +320,8 @@ fn opcodes() -> Vec<Case> {
     let mut most = files.clone();
     let records = most.body[OPCODES].len();
     most.body[OPCODES].extend((0..256).flat_map(|k| opcode_record(&format!("More{k}"), 0, &[])));
-    most.body[OPCODES].truncate(256 * 64);
-    let last = (records / 64) as u64 - 1;
+    most.body[OPCODES].truncate(256 * OPCODE_SIZE);
+    let last = (records / OPCODE_SIZE) as u64 - 1;
     let mut out = Vec::new();
     for scale in SCALES {
         for opcode in [WIDE, EXTRA_WIDE, LATER_WIDE, LATER_EXTRA, NONE, last] {
@@ -405,9 +406,9 @@ fn not_read() -> Vec<Case> {
 // ---- the table's refusals, and the order ----
 
 /// Tables to be refused, and tables whose fault lies in names that a writer is not lent.
-fn tables() -> Vec<Case> {
+fn tables(cases: Vec<faults::Case>) -> Vec<Case> {
     let small = |files: &Files| files.body.iter().all(|b| b.len() < 2_000);
-    let cases = faults::tables().into_iter().filter(|case| small(&case.files));
+    let cases = cases.into_iter().filter(|case| small(&case.files));
     // Opcode 4 takes a register.
     let one = |case: faults::Case| Case {
         class: case.class.replace("table_check: ", "table, "),
@@ -418,19 +419,23 @@ fn tables() -> Vec<Case> {
     cases.step_by(3).map(one).collect()
 }
 
-/// Faults of a table with refusals 1 to 5, as file, place and byte.
-const FAULTS: [(u64, usize, usize, u8); 6] = [
+/// Faults of a table with refusals 1 to 5, and 26, as file, place and byte.
+const FAULTS: [(u64, usize, usize, u8); 7] = [
     (1, LAYOUT, 80, 0),
     (2, OPCODES, 0, b'-'),
     (2, TYPES, 32, b'-'),
-    (3, OPCODES, 64 + 40, 3),
+    (3, OPCODES, OPCODE_SIZE + 40, 3),
+    (26, OPCODES, 2 * OPCODE_SIZE + FLOW, 6),
     (4, TYPES, 31, 1),
     (5, LAYOUT, 0, 5),
 ];
 
-/// Every two faults of rows 1 to 5, 21, 22, 23 and 17 at once, and all from one on.
+/// The refusals in their order.
+pub const ROWS: [u64; 10] = [1, 2, 3, 26, 4, 5, 21, 22, 23, 17];
+
+/// Every two faults of these rows at once, and all from one on.
 fn orders() -> Vec<Case> {
-    let rows = [1, 2, 3, 4, 5, 21, 22, 23, 17];
+    let rows = ROWS;
     let mut out = Vec::new();
     for (k, first) in rows.iter().enumerate() {
         for second in &rows[k..] {

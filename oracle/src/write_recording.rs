@@ -174,7 +174,7 @@ pub fn wanted() -> Vec<String> {
             }
         }
     }
-    let rows = [1, 2, 3, 4, 5, 21, 22, 23, 17];
+    let rows = write_cases::ROWS;
     for (k, first) in rows.iter().enumerate() {
         let pairs = rows[k..].iter().map(|second| second.to_string());
         for second in pairs.chain(["all behind".into()]) {

@@ -2,7 +2,7 @@
 //! program that replays them must find a difference in every one, so that a comparison that leaves something out shows.
 
 use crate::ask::*;
-use crate::records::Files;
+use crate::records::{Files, OLD_OPCODE_SIZE, OPCODES, OPCODE_SIZE};
 use crate::vectors::{self, Recorded, Writer};
 use std::collections::BTreeMap;
 use std::path::Path;
@@ -35,8 +35,10 @@ pub const PROGRAMS: [Program; 3] = [
             LAST_BYTES,
             SLOT_RECORDS,
             WRITE,
+            TO_NEW,
+            TO_OLD,
         ],
-        files: &["rows.vec", "store.vec", "code.vec", "slots.vec", "write.vec"],
+        files: &["rows.vec", "store.vec", "code.vec", "slots.vec", "write.vec", "convert.vec"],
         real: &[],
     },
     Program {
@@ -232,6 +234,10 @@ fn kinds_of(function: usize, said: &[u8]) -> Vec<String> {
         }
         SLOT_RECORDS => vec![format!("{} slots", (said.len() / 48).min(3))],
         WRITE => vec![format!("{} bytes", (said.len() - 1).min(4))],
+        TO_NEW | TO_OLD => {
+            let records = (said.len() - 1) / converted_size(function);
+            vec![format!("{} records", records.min(3))]
+        }
         LAST_BYTES | WALK_LAST_BYTES => {
             let runs = runs(&said[1..]);
             let mut out = vec![format!("{} runs", runs.len().min(4))];
@@ -254,6 +260,7 @@ fn wrongs(right: &Chosen) -> Result<Vec<Vec<u8>>, String> {
         }
         (1, WALK | WALK_CODE | WALK_WITH | WALK_CODE_WITH) => out.extend(wrong_walks(right)?),
         (1, LAST_BYTES | WALK_LAST_BYTES) => out.extend(wrong_runs(said)),
+        (1, TO_NEW | TO_OLD) => out.extend(wrong_files(right)),
         (_, function) => {
             out.extend((0..said.len() / 8).flat_map(|k| wrong_number(said, k)));
             if said.len() > 8 {
@@ -289,6 +296,40 @@ fn changed(said: &[u8], at: usize, by: impl Fn(u8) -> u8) -> Vec<u8> {
 
 fn flipped(said: &[u8], at: usize, bit: usize) -> Vec<u8> {
     changed(said, at, |byte| byte ^ 1 << bit)
+}
+
+/// Bytes of a record that a conversion gives.
+fn converted_size(function: usize) -> usize {
+    if function == TO_NEW {
+        OPCODE_SIZE
+    } else {
+        OLD_OPCODE_SIZE
+    }
+}
+
+/// In the first record, a middle one and the last: a byte of the name, of the operands, of the flow or of the zeros. One record
+/// forgotten; two changed over; the file as it was lent; a refusal in its place.
+fn wrong_files(right: &Chosen) -> Vec<Vec<u8>> {
+    let said = &right.said[..];
+    let size = converted_size(right.call.function);
+    let records: Vec<&[u8]> = said[1..].chunks(size).collect();
+    let count = records.len();
+    let mut out = Vec::new();
+    for record in [0, count / 2, count - 1] {
+        let bytes = [0, 40, 41, 49, 50, 51, 52, 53, 54, size - 1];
+        out.extend(bytes.map(|at| flipped(said, 1 + record * size + at, 0)));
+        let fewer = [&records[..record], &records[record + 1..]].concat().concat();
+        out.push([&[1], &fewer[..]].concat());
+        let doubled = [&records[..=record], &records[record..]].concat().concat();
+        out.push([&[1], &doubled[..]].concat());
+    }
+    let backward: Vec<&[u8]> = records.iter().rev().copied().collect();
+    let written = |file: &[u8]| [&[1], file].concat();
+    out.extend([written(&backward.concat()), written(&right.files.body[OPCODES])]);
+    out.extend([3, 17, 26, 27].map(refused_0));
+    out.push(said[..said.len() - 1].to_vec());
+    out.retain(|wrong| wrong != said);
+    out
 }
 
 /// The lowest bit of a number, and the highest.

@@ -144,6 +144,7 @@ pub fn meaning(number: u8) -> &'static str {
         21 => "the table has no opcode for that prefix",
         22 => "a prefix cannot stand alone",
         23 => "an operand does not fit: at its width it would not read back as it is",
+        26 => "an opcode record's bytes 50 to 53, which say what the opcode does, are out of range",
         _ => "no reason is known",
     }
 }

@@ -1,14 +1,16 @@
 //! The record files of a table, as the export writes them, and the names in them.
 
-use jscd_capi::{Files, Refusal};
+use jscd_capi::{is_old, Files, Refusal, OLD_RECORDS, OPCODE_SIZE as OPCODE};
 use std::path::Path;
 
 pub const NAMES: [&str; 5] =
     ["opcodes.bin", "types.bin", "runtime.bin", "intrinsic.bin", "layout.bin"];
 
-const OPCODE: usize = 64;
 const TYPE: usize = 32;
 const NAME: usize = 64;
+
+/// The refusal of an object that is not there.
+const NO_OBJECT: u8 = 8;
 
 /// Type codes of lists, and of the count that stands behind them.
 const LISTS: [u8; 2] = [6, 7];
@@ -24,29 +26,33 @@ pub struct Table {
 }
 
 impl Table {
-    /// The five files of a folder; an error names the file.
+    /// The five files of a folder; an error names the file. Opcode records of 64 bytes, of an older export, are told.
     pub fn read(folder: &Path) -> Result<Table, String> {
         let read = |name| {
             let path = folder.join(name);
             std::fs::read(&path).map_err(|e| format!("cannot read {}: {e}", path.display()))
         };
         let [opcodes, types, runtime, intrinsic, layout] = NAMES.map(read);
-        Ok(Table {
+        let table = Table {
             opcodes: opcodes?,
             types: types?,
             runtime: runtime?,
             intrinsic: intrinsic?,
             layout: layout?,
-        })
+        };
+        if is_old(&table.opcodes, &table.types) {
+            return Err(format!("{} {OLD_RECORDS}", folder.join(NAMES[0]).display()));
+        }
+        Ok(table)
     }
 
-    /// Refusals 1 to 5. A listing makes these checks of all five files first; without any object it goes no further than 8.
+    /// Refusals 1 to 5 and 26. A listing makes these checks of all five files first; without any object it goes no further than 8.
     pub fn check(&self) -> Result<(), Refusal> {
         let Table { opcodes, types, runtime, intrinsic, layout } = self;
         let [objects, slots, payload] = [&[][..]; 3];
         let files = Files { opcodes, types, runtime, intrinsic, layout, objects, slots, payload };
         match jscd_capi::list(&files, 0, &mut []) {
-            Err(refusal) if refusal.number < 6 => Err(refusal),
+            Err(refusal) if refusal.number != NO_OBJECT => Err(refusal),
             _ => Ok(()),
         }
     }

@@ -1,5 +1,6 @@
 //! The program as it is called, on document 01's sample table.
 
+use jscd_capi::OPCODE_SIZE;
 use std::io::Write;
 use std::path::{Path, PathBuf};
 use std::process::{Command, Stdio};
@@ -35,7 +36,7 @@ fn opcode(name: &str, codes: &[u8]) -> Vec<u8> {
     out.resize(41, 0);
     out.push(codes.len() as u8);
     out.extend(codes);
-    out.resize(64, 0);
+    out.resize(OPCODE_SIZE, 0);
     out
 }
 
@@ -225,4 +226,33 @@ fn files_and_usage() {
         status == 2 && errors.ends_with("is refused 2 at 0: a record's name is malformed\n"),
         "{errors}"
     );
+}
+
+/// Wish 6. A table whose opcode records have 64 bytes, as an older export wrote them, and one that has a flow of 6.
+#[test]
+fn tables_of_opcodes() {
+    let table = table("of_opcodes");
+    let file = table.join("opcodes.bin");
+    let new = std::fs::read(&file).unwrap();
+    let old = |record: &[u8]| [&record[..50], &[0; 14]].concat();
+    let old: Vec<u8> = new.chunks_exact(OPCODE_SIZE).flat_map(old).collect();
+    std::fs::write(&file, old).unwrap();
+    let told = format!(
+        "jscd_write: {} has records of 64 bytes: jscd_convert new OPCODES TYPES makes records of 72\n",
+        file.display()
+    );
+    assert_eq!(call(&[table.to_str().unwrap()], "Return"), (2, "".into(), told));
+    let mut bad = new.clone();
+    bad[5 * OPCODE_SIZE + 50] = 6;
+    std::fs::write(&file, bad).unwrap();
+    let (status, out, errors) = call(&[table.to_str().unwrap()], "Return");
+    assert!(
+        status == 2 && out.is_empty() && errors.contains("is refused 26 at 5: an opcode record's"),
+        "{errors}"
+    );
+    // What an opcode does is not written.
+    let mut other = new;
+    other[5 * OPCODE_SIZE + 50] = 0;
+    std::fs::write(&file, other).unwrap();
+    assert_eq!(writes(&table, &[], "Jump [2]"), "05 02\n");
 }

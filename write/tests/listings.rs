@@ -2,7 +2,7 @@
 
 mod vectors;
 
-use jscd_capi::{decode, Instr, Operand};
+use jscd_capi::{decode, Instr, Operand, OPCODE_SIZE};
 use jscd_write::program::{hex, written};
 use jscd_write::table::{function_name, function_named, Table};
 use vectors::{listings, Listing};
@@ -118,8 +118,15 @@ fn listings_over_random_tables() {
     assert!(functions > 100 && lines > 1_000 && dropped > 0, "{functions} {lines} {dropped}");
 }
 
-/// An empty list, where r0 can be too far for the layout, or a function whose name an earlier one has.
+/// An empty list, where r0 can be too far for the layout, a function whose name an earlier one has, or an opcode whose name another one has: some kinds
+/// of operands read alike.
 fn is_open(table: &Table, instr: &Instr) -> bool {
+    let name = |opcode: usize| &table.opcodes[opcode * OPCODE_SIZE..][..40];
+    let opcode = usize::from(instr.opcode);
+    let mut others = (0..table.opcodes.len() / OPCODE_SIZE).filter(|other| *other != opcode);
+    if others.any(|other| name(other) == name(opcode)) {
+        return true;
+    }
     let repeats = |file: &[u8], number| {
         function_name(file, number).and_then(|name| function_named(file, name)) != Some(number)
     };

@@ -1,4 +1,4 @@
--- A refusal on lent code is told by one of 01's numbers, 1 to 20, and so never as an answer or as "end". Assumes nothing.
+-- A refusal on lent code is told by one of the numbers 1 to 26, and so never as an answer or as "end". Assumes nothing.
 use Prim.Native.Nat.{ℕ, _≤_}
 use mathlib.Core.Path.{_≡_, refl, sym, ap}
 use mathlib.Core.Bool.{Bool, true, false, cond, _&&_}
@@ -44,7 +44,7 @@ use Rattle.walk.proofs.Rows.{RowOf, table-row, lent-row, decode-row}
 
 -- the numbers of a refusal, which has no values
 abbrev Told : Numbers → Type 0
-Told n = n .values ≡ [] → (1 ≤ n .number) × (n .number ≤ 20)
+Told n = n .values ≡ [] → (1 ≤ n .number) × (n .number ≤ 26)
 
 abbrev some : {A : Type 0} (v : ℤ) (vs : List ℤ) → v ∷ vs ≡ [] → A
 some v vs e = absurd (omega (arith, ap length e))

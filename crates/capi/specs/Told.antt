@@ -57,11 +57,11 @@ abbrev pub walkTold : Walked × List ℕ → ℕ × ℕ × ℕ × List ℕ
 walkTold a = let n = walkNumbers (a .0) in (n .0, n .1, n .2, a .1)
 
 -- Demand 3 in the numbers that are told: 0 means that no walk ever leaves; 254, that a shortest walk that leaves has so many steps, from that place;
--- and of the marks what they mean after either. Any other number is a refusal's, 1 to top.
-pub record WalkPromise (top : ℕ) (s : Source) (M : List ℕ) (number steps place : ℕ) : Type 0 where
+-- and of the marks what they mean after either. Any other number is a refusal's, 1 to 26.
+pub record WalkPromise (s : Source) (M : List ℕ) (number steps place : ℕ) : Type 0 where
   pub closed : number ≡ 0 → Promise s walked.Closed M
   pub leaves : number ≡ 254 → Promise s (walked.Leaves steps place) M
-  pub refused : (number ≡ 0 → ⊥) → (number ≡ 254 → ⊥) → number ≤ top
+  pub refused : (number ≡ 0 → ⊥) → (number ≡ 254 → ⊥) → number ≤ 26
 
 -- whether an object is lent for lent code, 0 if not, and its number
 abbrev pub poolObject : ℕ → ℕ → PoolObject
@@ -73,7 +73,7 @@ valuesTold zero vs = []
 valuesTold (suc k) [] = 0 ∷ valuesTold k []
 valuesTold (suc k) (v ∷ vs) = told64 v ∷ valuesTold k vs
 
--- An answer in 01's numbers, as it is told: its number, its place and k values. proofs/Rows.antt: a refusal's number is 1 to 20.
+-- An answer in 01's numbers, as it is told: its number, its place and k values. proofs/Rows.antt: a refusal's number is 1 to 26.
 abbrev pub numbersTold : ℕ → Numbers → ℕ × ℕ × List ℕ
 numbersTold k n = (n .number, n .place, valuesTold k (n .values))
 

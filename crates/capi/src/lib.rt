@@ -1,4 +1,4 @@
-// The calls for C and Rust: numbers and lent bytes in, one number out. 0 is an answer, 1 to 25 a refusal's number, 255 the end of the
+// The calls for C and Rust: numbers and lent bytes in, one number out. 0 is an answer, 1 to 27 a refusal's number, 255 the end of the
 // code, 254 a walk that leaves. The place, or the answer's length, is written behind a pointer. All that is lent to a call is a parameter of its
 // own, and so is each number of its answer: the calls on lent code have up to thirteen parameters.
 
@@ -12,6 +12,7 @@ use text::Written;
 use walk::Walked;
 ghost use mathlib.Core.Path.{_≡_};
 ghost use Rattle.function.specs.Files.{Files, filesOf, lentFiles};
+ghost use Rattle.convert.specs.Convert.{toNewCall, toOldCall};
 ghost use Rattle.disasm.specs.Listing.{listCall};
 ghost use Rattle.decoder.specs.declared.Decoded.{Decoded};
 ghost use Rattle.bytecode.specs.Decode.{decodeOne};
@@ -53,6 +54,24 @@ pub extern "C" fn jscd_list(
         object,
     );
     tell_written(listed, place)
+}
+
+// An opcode file of 01's form with its flows filled in by name, into `out`: its length in `place`, or the refusal's place, with `out` as it was.
+#[no_mangle]
+pub extern "C" fn jscd_to_new(out: &mut [u8], opcodes: &[u8], types: &[u8], place: &mut usize) -> u8
+    ensures { λ r. ⌜ (r, now (place .exit), now (out .exit)) ≡ bufferTold (toNewCall (now (opcodes .entry)) (now (types .entry)) (now (out .entry))) ⌝ }
+{
+    let written = convert::to_new(out, opcodes, types);
+    tell_written(written, place)
+}
+
+// The way back.
+#[no_mangle]
+pub extern "C" fn jscd_to_old(out: &mut [u8], opcodes: &[u8], types: &[u8], place: &mut usize) -> u8
+    ensures { λ r. ⌜ (r, now (place .exit), now (out .exit)) ≡ bufferTold (toOldCall (now (opcodes .entry)) (now (types .entry)) (now (out .entry))) ⌝ }
+{
+    let written = convert::to_old(out, opcodes, types);
+    tell_written(written, place)
 }
 
 // The bytes of the instruction that 28 numbers tell, as jscd_decode tells them, into `out`: their number in `place`, or the refusal's place, with `out`
@@ -129,7 +148,7 @@ pub extern "C" fn jscd_walk(
     ensures { λ r. let f : Files = filesOf (now (opcodes .entry)) (now (types .entry)) (now (runtime .entry)) (now (intrinsic .entry))
         (now (layout .entry)) (now (objects .entry)) (now (slots .entry)) (now (payload .entry)) in
         ⌜ ((r, now (steps .exit), now (place .exit), now (marks .exit)) ≡ walkTold (walkCall f object (now (marks .entry))))
-        × WalkPromise 20 (objectSource f object) (now (marks .exit)) r (now (steps .exit)) (now (place .exit)) ⌝ }
+        × WalkPromise (objectSource f object) (now (marks .exit)) r (now (steps .exit)) (now (place .exit)) ⌝ }
 {
     let walked = walk::walk(
         marks,
@@ -167,7 +186,7 @@ pub extern "C" fn jscd_walk_with(
         (now (layout .entry)) (now (objects .entry)) (now (slots .entry)) (now (payload .entry)) in
         let g : Given = givenOf (now (handlers .entry)) in
         ⌜ ((r, now (steps .exit), now (place .exit), now (marks .exit)) ≡ walkTold (walkWith f g object (now (marks .entry))))
-        × WalkPromise 25 (objectWith f g object) (now (marks .exit)) r (now (steps .exit)) (now (place .exit)) ⌝ }
+        × WalkPromise (objectWith f g object) (now (marks .exit)) r (now (steps .exit)) (now (place .exit)) ⌝ }
 {
     let walked = walk::walk_with(
         marks,
@@ -205,7 +224,7 @@ pub extern "C" fn jscd_walk_code(
         (now (slots .entry)) (now (payload .entry)) in
         ⌜ ((r, now (steps .exit), now (place .exit), now (marks .exit))
         ≡ walkTold (walkLent f (poolObject lent object) (now (code .entry)) (now (marks .entry))))
-        × WalkPromise 20 (lentSource f (poolObject lent object) (now (code .entry))) (now (marks .exit)) r (now (steps .exit)) (now (place .exit)) ⌝ }
+        × WalkPromise (lentSource f (poolObject lent object) (now (code .entry))) (now (marks .exit)) r (now (steps .exit)) (now (place .exit)) ⌝ }
 {
     let pool = pool_object(lent, object);
     let walked = walk::walk_code(
@@ -244,7 +263,7 @@ pub extern "C" fn jscd_walk_code_with(
         let g : Given = givenOf (now (handlers .entry)) in
         ⌜ ((r, now (steps .exit), now (place .exit), now (marks .exit))
         ≡ walkTold (walkLentWith f g (poolObject lent object) (now (code .entry)) (now (marks .entry))))
-        × WalkPromise 25 (lentWith f g (poolObject lent object) (now (code .entry))) (now (marks .exit)) r (now (steps .exit)) (now (place .exit)) ⌝ }
+        × WalkPromise (lentWith f g (poolObject lent object) (now (code .entry))) (now (marks .exit)) r (now (steps .exit)) (now (place .exit)) ⌝ }
 {
     let pool = pool_object(lent, object);
     let walked = walk::walk_code_with(

@@ -6,7 +6,7 @@ use Rattle.words.specs.Le.{leAt}
 use Rattle.words.specs.Signed.{modulo, wrap32, signed}
 use Rattle.text.specs.Texts.{decimal, lastDigits, hexDigit, hexByte}
 use Rattle.tables.specs.Names.{nameOk, nameAt, isNamed}
-use Rattle.tables.specs.Records.{width, firstMarked, typeNames, nameFits, sizeGood, sizeFits, opcodeOk}
+use Rattle.tables.specs.Records.{width, firstMarked, typeNames, nameFits, sizeGood, sizeFits, fieldsOk as opcodeFields, flowFits, typeCode}
 use Rattle.layout.specs.Layout.{ranges, rangeOf, layoutOf}
 use Rattle.tables.specs.Texts.{runtimeName}
 use Rattle.tables.specs.Check.{wholeRecords, checkTable}
@@ -16,7 +16,7 @@ use Rattle.decoder.specs.Decode.{partsFrom, readParts, decodeAt}
 use Rattle.decoder.specs.Listed.{listFrom}
 use Rattle.bytecode.specs.Decode.{decodeOne}
 use Rattle.bytecode.specs.Texts.{paramName, regName, listName, operandText, instrName}
-use Rattle.flow.specs.Flow.{flowNames, flows, flowNumber, flowBy, isReturn}
+use Rattle.flow.specs.Flow.{flowKind, flowOf, isReturn}
 use Rattle.targets.specs.Targets.{poolElem, operandOf, indexOf, numberOf, distanceBy, jumpTarget, jumpTable, tableBy, sizedBy}
 use Rattle.lines.specs.Line.{operandsBy, lineBy}
 use Rattle.function.specs.Code.{switchCheck}
@@ -33,18 +33,18 @@ use Rattle.cases.specs.Rows.Told.{walked}
 
 -- P1 to P12
 pub cases : map told asked ≡ rows
-unfolding told asked rows opcodes opcode typed types padded four fours layout checkTable wholeRecords within firstFrom nameOk opcodeOk sizeFits sizeGood nameFits isNamed
+unfolding told asked rows opcodes opcode typed types padded four fours layout checkTable wholeRecords within firstFrom nameOk opcodeFields flowFits typeCode sizeFits sizeGood nameFits isNamed
     typeNames ranges rangeOf layoutOf decodeOne decodeAt headAt firstMarked readParts partsFrom width isList kinds kindOf ofKind interpret leAt modulo wrap32
     signed lineBy operandsBy hexByte hexDigit flatMap nameAt decimal lastDigits runtimeName paramName regName listName operandText instrName targetCall targetOf
-    flowNames flows flowNumber flowBy isReturn poolElem operandOf indexOf numberOf distanceBy jumpTarget jumpTable tableBy sizedBy walkLentWith walkSource listFrom
+    flowKind flowOf isReturn poolElem operandOf indexOf numberOf distanceBy jumpTarget jumpTable tableBy sizedBy walkLentWith walkSource listFrom
     switchCheck walkGraph stepsAt instrSteps entriesSteps handlerAmong checkHandlers finding firstExit level after exits isStart markList marked reached bits
 cases = refl
 
 -- 02, Wish 4: empty code is closed, and no mark is written, whatever the mark buffer
 pub empty-cases : told (walks [] 0) ∷ told (walks [] 2) ∷ [] ≡ walked (walked-as.Closed, []) ∷ walked (walked-as.Closed, 7 ∷ 7 ∷ []) ∷ []
-unfolding told opcodes opcode typed types padded four fours layout checkTable wholeRecords within firstFrom nameOk opcodeOk sizeFits sizeGood nameFits isNamed
+unfolding told opcodes opcode typed types padded four fours layout checkTable wholeRecords within firstFrom nameOk opcodeFields flowFits typeCode sizeFits sizeGood nameFits isNamed
     typeNames ranges rangeOf layoutOf decodeOne decodeAt headAt firstMarked readParts partsFrom width isList kinds kindOf ofKind interpret leAt modulo wrap32
     signed lineBy operandsBy hexByte hexDigit flatMap nameAt decimal lastDigits runtimeName paramName regName listName operandText instrName targetCall targetOf
-    flowNames flows flowNumber flowBy isReturn poolElem operandOf indexOf numberOf distanceBy jumpTarget jumpTable tableBy sizedBy walkLentWith walkSource listFrom
+    flowKind flowOf isReturn poolElem operandOf indexOf numberOf distanceBy jumpTarget jumpTable tableBy sizedBy walkLentWith walkSource listFrom
     switchCheck walkGraph stepsAt instrSteps entriesSteps handlerAmong checkHandlers finding firstExit level after exits isStart markList marked reached bits
 empty-cases = refl

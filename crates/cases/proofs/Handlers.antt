@@ -8,14 +8,14 @@ use Rattle.words.specs.Le.{leAt}
 use Rattle.words.specs.Signed.{modulo, wrap32, signed}
 use Rattle.refusal.specs.Check.{refusalAt}
 use Rattle.tables.specs.Names.{nameOk, isNamed}
-use Rattle.tables.specs.Records.{width, firstMarked, typeNames, nameFits, sizeGood, sizeFits, opcodeOk}
+use Rattle.tables.specs.Records.{width, firstMarked, typeNames, nameFits, sizeGood, sizeFits, fieldsOk as opcodeFields, flowFits, typeCode}
 use Rattle.tables.specs.Check.{wholeRecords, checkTable}
 use Rattle.layout.specs.Layout.{ranges, rangeOf, layoutOf}
 use Rattle.operand.specs.Operand.{kinds, kindOf, ofKind, interpret, isList}
 use Rattle.prefix.specs.Head.{headAt}
 use Rattle.decoder.specs.Decode.{partsFrom, readParts, decodeAt}
 use Rattle.decoder.specs.Listed.{listFrom}
-use Rattle.flow.specs.Flow.{flowNames, flows, flowNumber, flowBy, isReturn}
+use Rattle.flow.specs.Flow.{flowKind, flowOf, isReturn}
 use Rattle.targets.specs.Targets.{poolElem, operandOf, indexOf, numberOf, distanceBy, jumpTarget, jumpTable, tableBy, sizedBy}
 use Rattle.function.specs.Files.{Files}
 use Rattle.function.specs.Code.{switchCheck}
@@ -29,7 +29,7 @@ use Rattle.function.specs.declared.PoolObject.the-variants as object
 use Rattle.walk.specs.declared.Walked.the-variants as walked
 
 pub thrown : List ℕ
-thrown = opcodes ++ opcode "Throw" 0 []
+thrown = opcodes ++ opcode "Throw" 0 [] (1 ∷ [])
 
 pub files : Files
 files = record { opcodes = thrown; types = types; runtime = []; intrinsic = []; layout = layout; objects = []; slots = []; payload = [] }
@@ -49,35 +49,35 @@ wide = 0x00 ∷ 0x05 ∷ 0x03 ∷ 0x00 ∷ 0x02 ∷ []
 -- a handler where no instruction starts; of two records that hold the jump the last one
 pub last-record : walks branch (0 ∷ 2 ∷ 1 ∷ []) 3 ∷ walks branch (0 ∷ 2 ∷ 1 ∷ 0 ∷ 3 ∷ 2 ∷ []) 4 ∷ []
     ≡ (walked.Leaves 1 0, 1 ∷ 0 ∷ 0 ∷ []) ∷ (walked.Closed, 1 ∷ 0 ∷ 1 ∷ 7 ∷ []) ∷ []
-unfolding walks branch wide files thrown opcodes opcode typed types padded four fours layout checkTable wholeRecords within firstFrom nameOk opcodeOk sizeFits sizeGood
+unfolding walks branch wide files thrown opcodes opcode typed types padded four fours layout checkTable wholeRecords within firstFrom nameOk opcodeFields flowFits typeCode sizeFits sizeGood
     nameFits isNamed typeNames ranges rangeOf layoutOf decodeAt headAt firstMarked readParts partsFrom width isList kinds kindOf ofKind interpret leAt modulo wrap32
-    signed flowNames flows flowNumber flowBy isReturn poolElem operandOf indexOf numberOf distanceBy jumpTarget jumpTable tableBy sizedBy walkLentWith walkSource listFrom
+    signed flowKind flowOf isReturn poolElem operandOf indexOf numberOf distanceBy jumpTarget jumpTable tableBy sizedBy walkLentWith walkSource listFrom
     switchCheck walkGraph stepsAt instrSteps entriesSteps handlerAmong checkHandlers finding firstExit level after exits isStart markList marked reached bits
 last-record = refl
 
 -- a Return has no handler; a Throw without and with one
 pub two-names : walks branch (2 ∷ 3 ∷ 1 ∷ []) 3 ∷ walks (0x0c ∷ 0x0b ∷ []) [] 2 ∷ walks (0x0c ∷ 0x0b ∷ []) (0 ∷ 1 ∷ 1 ∷ []) 2 ∷ []
     ≡ (walked.Closed, 1 ∷ 0 ∷ 1 ∷ []) ∷ (walked.Closed, 1 ∷ 0 ∷ []) ∷ (walked.Closed, 1 ∷ 1 ∷ []) ∷ []
-unfolding walks branch wide files thrown opcodes opcode typed types padded four fours layout checkTable wholeRecords within firstFrom nameOk opcodeOk sizeFits sizeGood
+unfolding walks branch wide files thrown opcodes opcode typed types padded four fours layout checkTable wholeRecords within firstFrom nameOk opcodeFields flowFits typeCode sizeFits sizeGood
     nameFits isNamed typeNames ranges rangeOf layoutOf decodeAt headAt firstMarked readParts partsFrom width isList kinds kindOf ofKind interpret leAt modulo wrap32
-    signed flowNames flows flowNumber flowBy isReturn poolElem operandOf indexOf numberOf distanceBy jumpTarget jumpTable tableBy sizedBy walkLentWith walkSource listFrom
+    signed flowKind flowOf isReturn poolElem operandOf indexOf numberOf distanceBy jumpTarget jumpTable tableBy sizedBy walkLentWith walkSource listFrom
     switchCheck walkGraph stepsAt instrSteps entriesSteps handlerAmong checkHandlers finding firstExit level after exits isStart markList marked reached bits
 two-names = refl
 
 -- a range of the byte behind a prefix holds nothing, one of the prefix holds the instruction
 pub prefix-counts : walks wide (1 ∷ 2 ∷ 1 ∷ []) 5 ∷ walks wide (0 ∷ 1 ∷ 1 ∷ []) 5 ∷ []
     ≡ (walked.Leaves 2 4, 1 ∷ 0 ∷ 0 ∷ 0 ∷ 1 ∷ []) ∷ (walked.Leaves 1 0, 1 ∷ 0 ∷ 0 ∷ 0 ∷ 0 ∷ []) ∷ []
-unfolding walks branch wide files thrown opcodes opcode typed types padded four fours layout checkTable wholeRecords within firstFrom nameOk opcodeOk sizeFits sizeGood
+unfolding walks branch wide files thrown opcodes opcode typed types padded four fours layout checkTable wholeRecords within firstFrom nameOk opcodeFields flowFits typeCode sizeFits sizeGood
     nameFits isNamed typeNames ranges rangeOf layoutOf decodeAt headAt firstMarked readParts partsFrom width isList kinds kindOf ofKind interpret leAt modulo wrap32
-    signed flowNames flows flowNumber flowBy isReturn poolElem operandOf indexOf numberOf distanceBy jumpTarget jumpTable tableBy sizedBy walkLentWith walkSource listFrom
+    signed flowKind flowOf isReturn poolElem operandOf indexOf numberOf distanceBy jumpTarget jumpTable tableBy sizedBy walkLentWith walkSource listFrom
     switchCheck walkGraph stepsAt instrSteps entriesSteps handlerAmong checkHandlers finding firstExit level after exits isStart markList marked reached bits
 prefix-counts = refl
 
 -- 25 at the second record; 24; 18 before 24; 25 on empty code
 pub rows-in-order : walks branch (0 ∷ 2 ∷ 2 ∷ 2 ∷ 4 ∷ 0 ∷ []) 3 ∷ walks branch (0 ∷ 2 ∷ []) 3 ∷ walks branch (0 ∷ 2 ∷ []) 2 ∷ walks [] (0 ∷ 0 ∷ 0 ∷ []) 1 ∷ []
     ≡ (walked.Refused (refusalAt 25 1), 7 ∷ 7 ∷ 7 ∷ []) ∷ (walked.Refused (refusalAt 24 0), 7 ∷ 7 ∷ 7 ∷ []) ∷ (walked.Refused (refusalAt 18 0), 7 ∷ 7 ∷ []) ∷ (walked.Refused (refusalAt 25 0), 7 ∷ []) ∷ []
-unfolding walks branch wide files thrown opcodes opcode typed types padded four fours layout checkTable wholeRecords within firstFrom nameOk opcodeOk sizeFits sizeGood
+unfolding walks branch wide files thrown opcodes opcode typed types padded four fours layout checkTable wholeRecords within firstFrom nameOk opcodeFields flowFits typeCode sizeFits sizeGood
     nameFits isNamed typeNames ranges rangeOf layoutOf decodeAt headAt firstMarked readParts partsFrom width isList kinds kindOf ofKind interpret leAt modulo wrap32
-    signed flowNames flows flowNumber flowBy isReturn poolElem operandOf indexOf numberOf distanceBy jumpTarget jumpTable tableBy sizedBy walkLentWith walkSource listFrom
+    signed flowKind flowOf isReturn poolElem operandOf indexOf numberOf distanceBy jumpTarget jumpTable tableBy sizedBy walkLentWith walkSource listFrom
     switchCheck walkGraph stepsAt instrSteps entriesSteps handlerAmong checkHandlers finding firstExit level after exits isStart markList marked reached bits
 rows-in-order = refl

@@ -11,7 +11,7 @@ use Rattle.refusal.specs.Check.{refusalAt}
 use Rattle.text.specs.declared.Written.{Written}
 use Rattle.text.specs.declared.Written.the-variants.{Done, Refused}
 use Rattle.tables.specs.Names.{nameOk, isNamed}
-use Rattle.tables.specs.Records.{width, firstMarked, typeNames, nameFits, sizeGood, sizeFits, opcodeOk}
+use Rattle.tables.specs.Records.{width, firstMarked, typeNames, nameFits, sizeGood, sizeFits, fieldsOk as opcodeFields, flowFits, typeCode}
 use Rattle.layout.specs.Layout.{ranges, rangeOf, layoutOf}
 use Rattle.tables.specs.Check.{wholeRecords, checkTable}
 use Rattle.operand.specs.Operand.{kinds, kindOf, ofKind, interpret, isList}
@@ -43,7 +43,7 @@ pub written-cases :
     ∷ (Done 5, 0x0a ∷ 0x05 ∷ 0x00 ∷ 0xfa ∷ 0x02 ∷ [])
     ∷ (Done 2, 0x00 ∷ 0x00 ∷ [])
     ∷ []
-unfolding opcodes opcode typed types padded four fours layout checkTable wholeRecords within firstFrom nameOk opcodeOk sizeFits sizeGood nameFits isNamed typeNames ranges rangeOf
+unfolding opcodes opcode typed types padded four fours layout checkTable wholeRecords within firstFrom nameOk opcodeFields flowFits typeCode sizeFits sizeGood nameFits isNamed typeNames ranges rangeOf
     layoutOf firstMarked width isList kinds kindOf ofKind interpret modulo wrap32 signed leAt leBytes operandBytes bytesBy headBytes instrBytes sameOperand backAs readsBack
     operandsOk scaleOk opcodeFits writeCall
 written-cases = refl
@@ -63,7 +63,7 @@ pub refused-cases :
     ∷ written 4 3 (Imm (pos 1) ∷ []) 5
     ∷ [])
     ≡ sevens 21 ∷ sevens 22 ∷ sevens 22 ∷ sevens 22 ∷ sevens 23 ∷ sevens 23 ∷ sevens 23 ∷ sevens 23 ∷ sevens 23 ∷ sevens 17 ∷ []
-unfolding opcodes opcode typed types padded four fours layout checkTable wholeRecords within firstFrom nameOk opcodeOk sizeFits sizeGood nameFits isNamed typeNames ranges rangeOf
+unfolding opcodes opcode typed types padded four fours layout checkTable wholeRecords within firstFrom nameOk opcodeFields flowFits typeCode sizeFits sizeGood nameFits isNamed typeNames ranges rangeOf
     layoutOf firstMarked width isList kinds kindOf ofKind interpret modulo wrap32 signed leAt leBytes operandBytes bytesBy headBytes instrBytes sameOperand backAs readsBack
     operandsOk scaleOk opcodeFits writeCall
 refused-cases = refl

@@ -6,7 +6,7 @@ use native.Mathlib.Omega.{arith}
 use lib.IntN.{pos, negsuc}
 use lib.ListN.{length, getD, replicate}
 use Rattle.laws.specs.Scan.{firstFrom}
-use Rattle.tables.specs.Records.{firstMarked}
+use Rattle.tables.specs.Records.{firstMarked, typeCode}
 use Rattle.flow.specs.Opcodes.{opcodesOf}
 use Rattle.operand.specs.declared.Operand.the-variants.{RegList, Imm, RuntimeId}
 use Rattle.decoder.specs.declared.Outcome.{Outcome}
@@ -25,9 +25,9 @@ v8 = record {
   operandTypes = λ op. getD ([] ∷ [] ∷ (kImm ∷ []) ∷ (kRuntimeId ∷ kRegList ∷ kRegCount ∷ []) ∷ []) op [];
 }
 
--- records as 01 has them; names do not matter here
+-- records as 01 and 02 have them; names and flows do not matter here
 abbrev opcode : ℕ → List ℕ → List ℕ
-opcode mark codes = replicate 40 0x41 ++ (mark ∷ length codes ∷ codes) ++ replicate (22 - length codes) 0
+opcode mark codes = replicate 40 0x41 ++ (mark ∷ length codes ∷ codes) ++ replicate (30 - length codes) 0
 
 abbrev ops : List ℕ
 ops = opcode 1 [] ++ opcode 2 [] ++ opcode 0 (9 ∷ []) ++ opcode 0 (15 ∷ 6 ∷ 8 ∷ [])
@@ -40,7 +40,7 @@ abbrev types : List ℕ
 types = scalables 15 ++ replicate 28 0x41 ++ (2 ∷ 0 ∷ 1 ∷ 0 ∷ scalables 1)
 
 form-runtime : V8Form v8 (opcodesOf ops) types 0x00 0x03
-unfolding firstMarked firstFrom codeOf typeInfo isScalable unscaledSize
+unfolding firstMarked firstFrom typeCode codeOf typeInfo isScalable unscaledSize
 form-runtime = record {
   wide = refl;
   extra = refl;

@@ -20,7 +20,6 @@ ghost use Rattle.text.specs.Written.{putText};
 ghost use Rattle.text.specs.Numbers.{WrittenAs};
 ghost use Rattle.text.specs.mirror.Written.{WrittenBy};
 ghost use Rattle.targets.specs.mirror.Search.{PoolBlocked};
-ghost use Rattle.flow.specs.Flow.{Numbered};
 ghost use Rattle.flow.specs.Opcodes.{opcodesOf};
 ghost use Rattle.targets.specs.Targets.{found, jumpTable};
 ghost use Rattle.function.specs.Files.{filesOf};
@@ -142,7 +141,6 @@ fn list_header(
         (now (payload .entry)) shape pool h (now (out .entry))) r (now (out .exit)) ⌝ }
 {
     let f = function::function_of(opcodes, shape, pool, h.parameter_count);
-    let flows = flow::flow_numbers(opcodes);
     list_code(
         out,
         opcodes,
@@ -151,7 +149,6 @@ fn list_header(
         intrinsic,
         slots,
         payload,
-        &flows,
         f,
         h,
     )
@@ -175,17 +172,15 @@ fn list_code(
     intrinsic: &[u8],
     slots: &[u8],
     payload: &[u8],
-    flows: &[u8],
     f: Function,
     h: Header,
 ) -> Written
-    requires { ⌜ Numbered (now opcodes) (now flows) 256 ⌝ }
     ensures { λ r. ⌜ WrittenBy (listView
         (viewOf (codeOf (now (payload .entry)) h) (now (opcodes .entry)) (now (types .entry)) (now (runtime .entry)) (now (intrinsic .entry))
         (now (slots .entry)) (now (payload .entry)) f) h
         (listedBy (codeOf (now (payload .entry)) h) (now (opcodes .entry)) (now (types .entry)) f) (now (out .entry))) r (now (out .exit)) ⌝ }
 {
-    let first = check_lines(code_of(payload, h), opcodes, types, flows, f);
+    let first = check_lines(code_of(payload, h), opcodes, types, f);
     let check = first.check;
     let room = first.room;
     match check {
@@ -200,7 +195,6 @@ fn list_code(
                     intrinsic,
                     slots,
                     payload,
-                    flows,
                     f,
                     h,
                 ))
@@ -213,7 +207,6 @@ fn list_code(
                     intrinsic,
                     slots,
                     payload,
-                    flows,
                     f,
                     h,
                 )
@@ -231,12 +224,10 @@ fn list_measured(
     intrinsic: &[u8],
     slots: &[u8],
     payload: &[u8],
-    flows: &[u8],
     f: Function,
     h: Header,
 ) -> Written
-    requires { ⌜ Numbered (now opcodes) (now flows) 256
-        × (codeCheck (listedBy (codeOf (now payload) h) (now opcodes) (now types) f .outcome) ≡ Ok) ⌝ }
+    requires { ⌜ (codeCheck (listedBy (codeOf (now payload) h) (now opcodes) (now types) f .outcome) ≡ Ok) ⌝ }
     ensures { λ r. ⌜ WrittenBy (putText (listingText
         (viewOf (codeOf (now (payload .entry)) h) (now (opcodes .entry)) (now (types .entry)) (now (runtime .entry)) (now (intrinsic .entry))
         (now (slots .entry)) (now (payload .entry)) f) h
@@ -250,7 +241,6 @@ fn list_measured(
         intrinsic,
         slots,
         payload,
-        flows,
         f,
         h,
     );
@@ -263,7 +253,6 @@ fn list_measured(
             intrinsic,
             slots,
             payload,
-            flows,
             f,
             h,
         ))
@@ -284,12 +273,10 @@ fn put_all(
     intrinsic: &[u8],
     slots: &[u8],
     payload: &[u8],
-    flows: &[u8],
     f: Function,
     h: Header,
 ) -> usize
-    requires { ⌜ Numbered (now opcodes) (now flows) 256
-        × (codeCheck (listedBy (codeOf (now payload) h) (now opcodes) (now types) f .outcome) ≡ Ok) ⌝ }
+    requires { ⌜ (codeCheck (listedBy (codeOf (now payload) h) (now opcodes) (now types) f .outcome) ≡ Ok) ⌝ }
     ensures { λ r. ⌜ Put (now (out .entry)) 0 (listingText
         (viewOf (codeOf (now (payload .entry)) h) (now (opcodes .entry)) (now (types .entry)) (now (runtime .entry)) (now (intrinsic .entry))
         (now (slots .entry)) (now (payload .entry)) f) h
@@ -306,7 +293,6 @@ fn put_all(
         intrinsic,
         slots,
         payload,
-        flows,
         f,
     );
     text::saturating_add(p, w)
@@ -341,10 +327,9 @@ fn put_lines(
     intrinsic: &[u8],
     slots: &[u8],
     payload: &[u8],
-    flows: &[u8],
     f: Function,
 ) -> usize
-    requires { ⌜ Numbered (now opcodes) (now flows) 256 × (codeCheck (listedBy (now code) (now opcodes) (now types) f .outcome) ≡ Ok) ⌝ }
+    requires { ⌜ (codeCheck (listedBy (now code) (now opcodes) (now types) f .outcome) ≡ Ok) ⌝ }
     ensures { λ r. ⌜ Put (now (out .entry)) 0 (linesText
         (viewOf (now (code .entry)) (now (opcodes .entry)) (now (types .entry)) (now (runtime .entry)) (now (intrinsic .entry))
         (now (slots .entry)) (now (payload .entry)) f)
@@ -362,7 +347,6 @@ fn put_lines(
         slots,
         payload,
         &blocks,
-        flows,
         f,
     )
 }
@@ -378,10 +362,9 @@ fn put_each(
     slots: &[u8],
     payload: &[u8],
     blocks: &[u32],
-    flows: &[u8],
     f: Function,
 ) -> usize
-    requires { ⌜ Numbered (now opcodes) (now flows) 256 × (codeCheck (listedBy (now code) (now opcodes) (now types) f .outcome) ≡ Ok)
+    requires { ⌜ (codeCheck (listedBy (now code) (now opcodes) (now types) f .outcome) ≡ Ok)
         × PoolBlocked (now slots) (f .ts) (f .pool) (now blocks) ⌝ }
     ensures { λ r. ⌜ Put (now (out .entry)) 0 (linesText
         (viewOf (now (code .entry)) (now (opcodes .entry)) (now (types .entry)) (now (runtime .entry)) (now (intrinsic .entry))
@@ -401,7 +384,7 @@ fn put_each(
             Outcome::End => return p,
             Outcome::Done => {
                 let end = instr.end;
-                let flow = flow::flow_in(flows, instr.opcode);
+                let flow = flow::flow_of(opcodes, instr.opcode);
                 let q = text::min(p, out.len());
                 let w = lines::put_instr(
                     &mut out[q..],
@@ -424,8 +407,7 @@ fn put_each(
 }
 
 // 11 to 16, and room for the header and all lines. An instruction's operands are decoded where it is a switch.
-fn check_lines(code: &[u8], opcodes: &[u8], types: &[u8], flows: &[u8], f: Function) -> Pass
-    requires { ⌜ Numbered (now opcodes) (now flows) 256 ⌝ }
+fn check_lines(code: &[u8], opcodes: &[u8], types: &[u8], f: Function) -> Pass
     ensures { λ r. ⌜ Checked (opcodesOf (now (opcodes .entry))) (found (f .pool))
         (listedBy (now (code .entry)) (now (opcodes .entry)) (now (types .entry)) f) r ⌝ }
 {
@@ -446,7 +428,7 @@ fn check_lines(code: &[u8], opcodes: &[u8], types: &[u8], flows: &[u8], f: Funct
             Outcome::Done => {
                 let end = x.end;
                 let size = end - i;
-                let flow = flow::flow_in(flows, x.opcode);
+                let flow = flow::flow_of(opcodes, x.opcode);
                 let table = table_at(code, opcodes, types, f, flow, i);
                 let count = tables::operand_count(opcodes, x.opcode);
                 let room = lines::line_room(flow, count, size as u8, table);

@@ -1,9 +1,9 @@
 // The programs' input and output: the eight record files are read, and the answer is printed. What is printed for eight files, and handler records beside
-// them, is the contract of `answer`. No contract can say what is read or written: the other functions state only how much of a buffer counts.
+// them, is the contract of `answer`. No contract can say what is read or written.
+use inputs::Loaded;
 use libc::STDERR_FILENO;
 use libc::STDOUT_FILENO;
 ghost use mathlib.Core.Path.{_≡_};
-ghost use Rattle.io.specs.Counts.{Counts};
 ghost use Rattle.function.specs.Files.{filesOf};
 ghost use Rattle.walk.specs.Walk.{givenOf};
 ghost use Rattle.program.specs.Printed.{Printed};
@@ -15,65 +15,45 @@ pub enum Program {
     Walk,
 }
 
-// Whether a file was read, and how many bytes of it.
-struct Loaded {
-    good: bool,
-    size: usize,
+// The whole program, on its arguments: files in the order of document 01, or none for those of the usual names in the current folder. In front of
+// them the walk program takes handler records: --handlers and a file.
+pub fn run(what: Program) {
+    let count = text::min(os::arg_count(), 255);
+    run_on(what, 1, count as u8);
 }
 
-// The whole program: the files are its arguments, in the order of document 01, or those of the usual names in the current folder. The walk program takes
-// handler records in front of them: --handlers and a file.
-pub fn run(what: Program) {
-    let count = os::arg_count();
-    if takes_handlers(what) {
-        run_by(what, count, 3, 2);
+// The same on the arguments from number from on, below to.
+pub fn run_on(what: Program, from: u8, to: u8) {
+    if takes_handlers(what, from, to) {
+        run_files(what, from as u16 + 2, to as u16, from as u16 + 1);
     } else {
-        run_by(what, count, 1, 0);
+        run_files(what, from as u16, to as u16, 0);
     }
 }
 
-// The program on so many arguments, of which the files are those from number first on.
-fn run_by(what: Program, count: usize, first: u8, handlers: u8) {
-    if count == first as usize + 8 {
-        run_from(what, first, handlers);
-    } else if count == first as usize {
-        run_from(what, 0, handlers);
+// Whether the first of these arguments is the walk program's option.
+fn takes_handlers(what: Program, from: u8, to: u8) -> bool {
+    match what {
+        Program::List => false,
+        Program::Walk => from < to && inputs::is_argument(from as usize, b"--handlers"),
+    }
+}
+
+// The program on the files from argument first on, below to; with the handler records of argument number handlers, or with none where that is 0.
+fn run_files(what: Program, first: u16, to: u16, handlers: u16) {
+    if to < first {
+        usage(what);
+    } else if to - first == 8 {
+        run_by(what, first, handlers);
+    } else if to == first {
+        run_by(what, 0, handlers);
     } else {
         usage(what);
     }
 }
 
-// Whether the first argument is the walk program's option.
-fn takes_handlers(what: Program) -> bool {
-    match what {
-        Program::List => false,
-        Program::Walk => is_argument(1, b"--handlers"),
-    }
-}
-
-fn is_argument(i: usize, word: &[u8]) -> bool {
-    let mut path = io::buffer();
-    let n = os::arg(i, &mut path);
-    is_word(&path[..n], word)
-}
-
-fn is_word(s: &[u8], word: &[u8]) -> bool {
-    if s.len() != word.len() {
-        return false;
-    }
-    let mut i: usize = 0;
-    while i < s.len() {
-        if s[i] != word[i] {
-            return false;
-        }
-        i += 1;
-    }
-    true
-}
-
-// The same for the eight arguments from number first on, or for the usual names where first is 0; with the handler records of argument number handlers,
-// or with none where that is 0. A file's limit is 65,536 bytes; it has room for one more, in which a longer file shows.
-pub fn run_from(what: Program, first: u8, handlers: u8) {
+// The same, where first is 0 for the usual names. A file's limit is 65,536 bytes; it has room for one more, in which a longer file shows.
+fn run_by(what: Program, first: u16, handlers: u16) {
     let mut room = [0u8; 589833];
     let opcodes = load(true, first, 0, b"opcodes.bin", &mut room);
     let types = load(opcodes.good, first, 1, b"types.bin", &mut room);
@@ -199,18 +179,18 @@ fn answer(
 }
 
 // Reads file i of the eight, by its argument or by its usual name, where those before it were read.
-fn load(so_far: bool, first: u8, i: u8, name: &[u8], room: &mut [u8; 589833]) -> Loaded {
+fn load(so_far: bool, first: u16, i: u8, name: &[u8], room: &mut [u8; 589833]) -> Loaded {
     if so_far {
         load_at(first, i, name, room)
     } else {
-        unread()
+        inputs::unread()
     }
 }
 
 // Reads the handler records, argument number i; none where that is 0.
-fn load_given(so_far: bool, i: u8, room: &mut [u8; 589833]) -> Loaded {
+fn load_given(so_far: bool, i: u16, room: &mut [u8; 589833]) -> Loaded {
     if !so_far {
-        return unread();
+        return inputs::unread();
     }
     if i == 0 {
         return Loaded {
@@ -221,77 +201,26 @@ fn load_given(so_far: bool, i: u8, room: &mut [u8; 589833]) -> Loaded {
     load_records(i, room)
 }
 
-fn load_records(i: u8, room: &mut [u8]) -> Loaded {
+fn load_records(i: u16, room: &mut [u8]) -> Loaded {
     if room.len() < 589833 {
-        return unread();
+        return inputs::unread();
     }
-    load_argument(i as usize, &mut room[524296..589833])
+    inputs::load_argument(i as usize, &mut room[524296..589833])
 }
 
-fn load_at(first: u8, i: u8, name: &[u8], room: &mut [u8]) -> Loaded {
+fn load_at(first: u16, i: u8, name: &[u8], room: &mut [u8]) -> Loaded {
     let at = i as usize * 65537;
     let end = at + 65537;
     if room.len() < end {
-        return unread();
+        return inputs::unread();
     }
     load_by(first, i, name, &mut room[at..end])
 }
 
-fn load_by(first: u8, i: u8, name: &[u8], buffer: &mut [u8]) -> Loaded
-    ensures { λ r. ⌜ Counts (r .size) (now (buffer .exit)) ⌝ }
-{
+fn load_by(first: u16, i: u8, name: &[u8], buffer: &mut [u8]) -> Loaded {
     if first == 0 {
-        load_file(name, buffer)
+        inputs::load_file(name, buffer)
     } else {
-        load_argument(first as usize + i as usize, buffer)
-    }
-}
-
-fn load_argument(i: usize, buffer: &mut [u8]) -> Loaded
-    ensures { λ r. ⌜ Counts (r .size) (now (buffer .exit)) ⌝ }
-{
-    let mut path = io::buffer();
-    let n = os::arg(i, &mut path);
-    if os::errno() != 0 {
-        os::fail(&path);
-        return unread();
-    }
-    load_file(&path[..n], buffer)
-}
-
-// The start of a file, as much as the buffer holds.
-fn load_file(path: &[u8], buffer: &mut [u8]) -> Loaded
-    ensures { λ r. ⌜ Counts (r .size) (now (buffer .exit)) ⌝ }
-{
-    let fd = os::open_read(path);
-    if fd < 0 {
-        os::fail(path);
-        return unread();
-    }
-    let n = io::read_full(fd, buffer);
-    if n < buffer.len() && !at_end(fd) {
-        os::fail(path);
-        libc::close(fd);
-        return unread();
-    }
-    libc::close(fd);
-    Loaded {
-        good: true,
-        size: n,
-    }
-}
-
-// Reading stopped at the file's end, not at a read that failed.
-fn at_end(fd: i32) -> bool {
-    let mut next = [0u8; 1];
-    libc::read(fd, &mut next) == 0
-}
-
-fn unread() -> Loaded
-    ensures { λ r. ⌜ r .size ≡ 0 ⌝ }
-{
-    Loaded {
-        good: false,
-        size: 0,
+        inputs::load_argument(first as usize + i as usize, buffer)
     }
 }

@@ -1,75 +1,34 @@
--- What an instruction does with the flow of control, by its plain name.
-use Prim.Native.Nat.{ℕ, _<_}
-use mathlib.Core.Path.{_≡_}
-use mathlib.Core.List.{List, [], _∷_, _++_}
-use mathlib.Core.Bool.{Bool, true, false, _||_}
-use lib.ListN.{getD, replicate}
+-- What an instruction does with the flow of control, as its opcode's record says.
+use Prim.Native.Nat.{ℕ}
+use mathlib.Core.List.{List, [], _∷_}
+use mathlib.Core.Bool.{Bool, false, _||_}
+use lib.Dec.{eqb}
+use lib.ListN.{getD}
 use Rattle.laws.specs.Ascii.{ascii}
-use Rattle.laws.specs.Scan.{firstFrom}
 use Rattle.tables.specs.Names.{isNamed}
-use Rattle.tables.specs.Records.{opcodeNameSize, opcodeStart}
+use Rattle.tables.specs.Records.{opcodeNameSize, opcodeStart, opByte}
 use Rattle.flow.specs.declared.Kind.{Kind}
 use Rattle.flow.specs.declared.Kind.the-variants.{On, Ends, Jumps, Branches, JumpsBack, Switch}
 use Rattle.flow.specs.declared.Flow.{Flow}
 
--- 01: "Return, SuspendGenerator, Throw, ReThrow, Abort end it."
-abbrev pub endNames : List (List ℕ)
-endNames = ascii "Return" ∷ ascii "SuspendGenerator" ∷ ascii "Throw" ∷ ascii "ReThrow" ∷ ascii "Abort" ∷ []
+-- 02, Wish 6: "Byte 50 is the flow: 0 straight on, 1 ends, 2 jumps, 3 jumps or goes on, 4 jumps back, 5 switch." Any other is refused, 26.
+unfoldable pub flowKind : ℕ → Kind
+flowKind b = getD (On ∷ Ends ∷ Jumps ∷ Branches ∷ JumpsBack ∷ Switch ∷ []) b On
 
--- "Jump, JumpConstant, JumpLoop, JumpLoopConstant go to the target."
-abbrev pub jumpNames : List (List ℕ)
-jumpNames = ascii "Jump" ∷ ascii "JumpConstant" ∷ ascii "JumpLoop" ∷ ascii "JumpLoopConstant" ∷ []
+-- "Byte 51 is 1 if the distance comes from the pool, else 0. Byte 52, 0 to 7, numbers the first decoded operand used. Byte 53 is 1 if a switch has
+-- a case base, else 0."
+unfoldable pub flowOf : List ℕ → ℕ → Flow
+flowOf ops op = record {
+  kind = flowKind (opByte ops op 50);
+  pool = eqb (opByte ops op 51) 1;
+  first = opByte ops op 52;
+  base = eqb (opByte ops op 53) 1;
+}
 
--- "Other names in `jump_target`'s list go to the target or e": the Rust's list, those whose distance is an operand
-abbrev pub branchNames : List (List ℕ)
-branchNames =
-    ascii "JumpIfTrue" ∷ ascii "JumpIfFalse" ∷ ascii "JumpIfToBooleanTrue" ∷ ascii "JumpIfToBooleanFalse" ∷ ascii "JumpIfNull" ∷ ascii "JumpIfNotNull"
-    ∷ ascii "JumpIfUndefined" ∷ ascii "JumpIfUndefinedOrNull" ∷ ascii "JumpIfNotUndefined" ∷ ascii "JumpIfJSReceiver" ∷ ascii "JumpIfNotHole" ∷ ascii "JumpIfReferenceError" ∷ ascii "JumpIfNotReferenceError" ∷ []
-
--- .. and those whose distance comes from the pool
-abbrev pub constantNames : List (List ℕ)
-constantNames =
-    ascii "JumpIfTrueConstant" ∷ ascii "JumpIfFalseConstant" ∷ ascii "JumpIfToBooleanTrueConstant" ∷ ascii "JumpIfToBooleanFalseConstant" ∷ ascii "JumpIfNullConstant"
-    ∷ ascii "JumpIfNotNullConstant" ∷ ascii "JumpIfUndefinedConstant" ∷ ascii "JumpIfUndefinedOrNullConstant" ∷ ascii "JumpIfNotUndefinedConstant"
-    ∷ ascii "JumpIfJSReceiverConstant" ∷ ascii "JumpIfNotHoleConstant" ∷ ascii "JumpIfReferenceErrorConstant" ∷ ascii "JumpIfNotReferenceErrorConstant" ∷ []
-
--- "only the two .. switch names have entries"
-abbrev pub switchNames : List (List ℕ)
-switchNames = ascii "SwitchOnSmiNoFeedback" ∷ ascii "SwitchOnGeneratorState" ∷ []
-
-unfoldable pub flowNames : List (List ℕ)
-flowNames = endNames ++ jumpNames ++ branchNames ++ constantNames ++ switchNames
-
+-- a flow whose first operand is used, and that has no case base
 abbrev pub plain : Kind → Bool → Flow
 plain kind pool = record { kind = kind; pool = pool; first = 0; base = false }
-
--- the flow of each of these names; a switch reads its table, no distance, from the pool
-unfoldable pub flows : List Flow
-flows =
-    replicate 5 (plain Ends false)
-    ++ (plain Jumps false ∷ plain Jumps true ∷ plain JumpsBack false ∷ plain JumpsBack true ∷ [])
-    ++ replicate 13 (plain Branches false) ++ replicate 13 (plain Branches true)
-    ++ (record { kind = Switch; pool = false; first = 0; base = true } ∷ record { kind = Switch; pool = false; first = 1; base = false } ∷ [])
-
-abbrev pub hasFlowName : List ℕ → ℕ → ℕ → Bool
-hasFlowName ops at k = isNamed ops at opcodeNameSize (getD flowNames k [])
-
--- the number of the name of the opcode record at place at, 37 where it is none of these
-unfoldable pub flowNumber : List ℕ → ℕ → ℕ
-flowNumber ops at = firstFrom (hasFlowName ops at) 0 37
-
--- "All others go to e."
-unfoldable pub flowBy : ℕ → Flow
-flowBy k = getD flows k (plain On false)
-
--- the flow of an opcode
-abbrev pub flowOf : List ℕ → ℕ → Flow
-flowOf ops op = flowBy (flowNumber ops (opcodeStart op))
 
 -- V8: Bytecodes::Returns, RETURN_BYTECODE_LIST. 02, Wish 5: "except Return and SuspendGenerator", by name
 unfoldable pub isReturn : List ℕ → ℕ → Bool
 isReturn ops op = isNamed ops (opcodeStart op) opcodeNameSize (ascii "Return") || isNamed ops (opcodeStart op) opcodeNameSize (ascii "SuspendGenerator")
-
--- the first n entries of a table are the numbers of the first n opcodes
-abbrev pub Numbered : List ℕ → List ℕ → ℕ → Type 0
-Numbered ops table n = (op : ℕ) → op < n → getD table op 0 ≡ flowNumber ops (opcodeStart op)

@@ -14,14 +14,14 @@ use Rattle.serializer.specs.Down.{down}
 use Rattle.serializer.specs.Slots.{slotAt}
 use Rattle.serializer.specs.Element.{elemAt}
 use Rattle.tables.specs.Names.{nameOk, nameAt, isNamed}
-use Rattle.tables.specs.Records.{width, firstMarked, typeNames, nameFits, sizeGood, sizeFits, opcodeOk}
+use Rattle.tables.specs.Records.{width, firstMarked, typeNames, nameFits, sizeGood, sizeFits, fieldsOk as opcodeFields, flowFits, typeCode}
 use Rattle.layout.specs.Layout.{ranges, rangeOf, layoutOf}
 use Rattle.tables.specs.Check.{wholeRecords, checkTable}
 use Rattle.operand.specs.Operand.{kinds, kindOf, ofKind, interpret, isList}
 use Rattle.prefix.specs.Head.{headAt}
 use Rattle.decoder.specs.Decode.{partsFrom, readParts, decodeAt}
 use Rattle.sample.specs.Sample.{padded, opcode, typed, opcodes, types, four, fours, layout}
-use Rattle.flow.specs.Flow.{flowNames, flows, flowNumber, flowBy}
+use Rattle.flow.specs.Flow.{flowKind, flowOf}
 use Rattle.targets.specs.Targets.{poolElem, operandOf, indexOf, numberOf, distanceBy, jumpTarget, jumpTable, tableBy, sizedBy, entryAt}
 use Rattle.function.specs.Files.{Files}
 use Rattle.function.specs.Pool.{poolBy}
@@ -63,9 +63,9 @@ pub target-cases :
     ∷ [])
     ≡ (target-answer.At 18446744073709551613 ∷ target-answer.End ∷ target-answer.Refused (refusalAt 20 2) ∷ target-answer.Nothing ∷ target-answer.At 4
     ∷ target-answer.Refused (refusalAt 8 0) ∷ [])
-unfolding targetCall targetOf opcodes opcode typed types padded four fours layout checkTable wholeRecords within firstFrom nameOk opcodeOk sizeFits sizeGood nameFits isNamed typeNames
+unfolding targetCall targetOf opcodes opcode typed types padded four fours layout checkTable wholeRecords within firstFrom nameOk opcodeFields flowFits typeCode sizeFits sizeGood nameFits isNamed typeNames
     ranges rangeOf leAt checkStore sizesOk objectOk slotOk valueOk fieldsOk falls fallsIn objectOf slotOf layoutOf poolBy slotAt poolElem elemAt down smiBytes decodeAt headAt
-    firstMarked readParts partsFrom width isList kinds kindOf ofKind interpret modulo wrap32 signed nameAt flowNames flows flowNumber flowBy operandOf indexOf
+    firstMarked readParts partsFrom width isList kinds kindOf ofKind interpret modulo wrap32 signed nameAt flowKind flowOf operandOf indexOf
     numberOf distanceBy jumpTarget
 target-cases = refl
 
@@ -84,9 +84,9 @@ pub table-cases :
     ∷ [])
     ≡ (table-answer.At (record { start = 0; count = 2; base = pos 5 }) ∷ table-answer.Nothing ∷ table-answer.At (record { start = 0; count = 2; base = pos 5 }) ∷ table-answer.Nothing
     ∷ [])
-unfolding tableCall tableOf opcodes opcode typed types padded four fours layout checkTable wholeRecords within firstFrom nameOk opcodeOk sizeFits sizeGood nameFits isNamed typeNames
+unfolding tableCall tableOf opcodes opcode typed types padded four fours layout checkTable wholeRecords within firstFrom nameOk opcodeFields flowFits typeCode sizeFits sizeGood nameFits isNamed typeNames
     ranges rangeOf leAt checkStore sizesOk objectOk slotOk valueOk fieldsOk falls fallsIn objectOf slotOf layoutOf poolBy slotAt decodeAt headAt
-    firstMarked readParts partsFrom width isList kinds kindOf ofKind interpret modulo wrap32 signed nameAt flowNames flows flowNumber flowBy operandOf indexOf
+    firstMarked readParts partsFrom width isList kinds kindOf ofKind interpret modulo wrap32 signed nameAt flowKind flowOf operandOf indexOf
     numberOf jumpTable tableBy sizedBy
 table-cases = refl
 
@@ -103,36 +103,36 @@ pub entry-cases :
     ∷ [])
     ≡ (entry-answer.Shown (pos 5) 4 ∷ entry-answer.Skipped ∷ entry-answer.Beyond ∷ entry-answer.Nothing ∷ entry-answer.Nothing ∷ entry-answer.End
     ∷ entry-answer.Shown (pos 5) 5 ∷ entry-answer.Skipped ∷ [])
-unfolding entryCall tableCall tableOf opcodes opcode typed types padded four fours layout checkTable wholeRecords within firstFrom nameOk opcodeOk sizeFits sizeGood nameFits isNamed typeNames
+unfolding entryCall tableCall tableOf opcodes opcode typed types padded four fours layout checkTable wholeRecords within firstFrom nameOk opcodeFields flowFits typeCode sizeFits sizeGood nameFits isNamed typeNames
     ranges rangeOf leAt checkStore sizesOk objectOk slotOk valueOk fieldsOk falls fallsIn objectOf slotOf layoutOf poolBy slotAt poolElem elemAt down smiBytes decodeAt headAt
-    firstMarked readParts partsFrom width isList kinds kindOf ofKind interpret modulo wrap32 signed nameAt flowNames flows flowNumber flowBy operandOf indexOf
+    firstMarked readParts partsFrom width isList kinds kindOf ofKind interpret modulo wrap32 signed nameAt flowKind flowOf operandOf indexOf
     numberOf jumpTable tableBy sizedBy entryAt
 entry-cases = refl
 
 -- a switch whose count is signed: 16 at its start, and only of the table
 abbrev signedSwitch : List ℕ
-signedSwitch = opcode "SwitchOnSmiNoFeedback" 0 (10 ∷ 9 ∷ 9 ∷ [])
+signedSwitch = opcode "SwitchOnSmiNoFeedback" 0 (10 ∷ 9 ∷ 9 ∷ []) (5 ∷ 0 ∷ 0 ∷ 1 ∷ [])
 
 abbrev twoSwitches : List ℕ
 twoSwitches = 0x00 ∷ 0x00 ∷ 0x01 ∷ 0x05 ∷ 0x00 ∷ 0x00 ∷ 0xff ∷ 0x05 ∷ []
 
 pub sixteen-case : tableCall (files signedSwitch) (object.Object 0) twoSwitches 4 ≡ table-answer.Refused (refusalAt 16 4)
-unfolding tableCall tableOf opcode typed types padded four fours layout checkTable wholeRecords within firstFrom nameOk opcodeOk sizeFits sizeGood nameFits isNamed typeNames
+unfolding tableCall tableOf opcode typed types padded four fours layout checkTable wholeRecords within firstFrom nameOk opcodeFields flowFits typeCode sizeFits sizeGood nameFits isNamed typeNames
     ranges rangeOf leAt checkStore sizesOk objectOk slotOk valueOk fieldsOk falls fallsIn objectOf slotOf layoutOf poolBy slotAt decodeAt headAt
-    firstMarked readParts partsFrom width isList kinds kindOf ofKind interpret modulo wrap32 signed nameAt flowNames flows flowNumber flowBy operandOf indexOf
+    firstMarked readParts partsFrom width isList kinds kindOf ofKind interpret modulo wrap32 signed nameAt flowKind flowOf operandOf indexOf
     numberOf jumpTable tableBy sizedBy
 sixteen-case = refl
 
 -- under Wide too
-pub sixteen-wide : tableCall (files (opcode "Wide" 1 [] ++ signedSwitch)) (object.Object 0) (0x00 ∷ 0x01 ∷ 0x00 ∷ 0x00 ∷ 0x01 ∷ 0x10 ∷ 0x05 ∷ 0x00 ∷ []) 0 ≡ table-answer.Refused (refusalAt 16 0)
-unfolding tableCall tableOf opcode typed types padded four fours layout checkTable wholeRecords within firstFrom nameOk opcodeOk sizeFits sizeGood nameFits isNamed typeNames
+pub sixteen-wide : tableCall (files (opcode "Wide" 1 [] [] ++ signedSwitch)) (object.Object 0) (0x00 ∷ 0x01 ∷ 0x00 ∷ 0x00 ∷ 0x01 ∷ 0x10 ∷ 0x05 ∷ 0x00 ∷ []) 0 ≡ table-answer.Refused (refusalAt 16 0)
+unfolding tableCall tableOf opcode typed types padded four fours layout checkTable wholeRecords within firstFrom nameOk opcodeFields flowFits typeCode sizeFits sizeGood nameFits isNamed typeNames
     ranges rangeOf leAt checkStore sizesOk objectOk slotOk valueOk fieldsOk falls fallsIn objectOf slotOf layoutOf poolBy slotAt decodeAt headAt
-    firstMarked readParts partsFrom width isList kinds kindOf ofKind interpret modulo wrap32 signed nameAt flowNames flows flowNumber flowBy operandOf indexOf
+    firstMarked readParts partsFrom width isList kinds kindOf ofKind interpret modulo wrap32 signed nameAt flowKind flowOf operandOf indexOf
     numberOf jumpTable tableBy sizedBy
 sixteen-wide = refl
 
 pub sixteen-target : targetCall (files signedSwitch) (object.Object 0) twoSwitches 4 ≡ target-answer.Nothing
-unfolding targetCall targetOf opcode typed types padded four fours layout checkTable wholeRecords within firstFrom nameOk opcodeOk sizeFits sizeGood nameFits isNamed typeNames
+unfolding targetCall targetOf opcode typed types padded four fours layout checkTable wholeRecords within firstFrom nameOk opcodeFields flowFits typeCode sizeFits sizeGood nameFits isNamed typeNames
     ranges rangeOf leAt checkStore sizesOk objectOk slotOk valueOk fieldsOk falls fallsIn objectOf slotOf layoutOf poolBy slotAt decodeAt headAt
-    firstMarked readParts partsFrom width isList kinds kindOf ofKind interpret modulo wrap32 signed nameAt flowNames flows flowNumber flowBy jumpTarget
+    firstMarked readParts partsFrom width isList kinds kindOf ofKind interpret modulo wrap32 signed nameAt flowKind flowOf jumpTarget
 sixteen-target = refl

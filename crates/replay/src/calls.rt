@@ -9,6 +9,7 @@ use serializer::LenAnswer;
 use serializer::OffAnswer;
 use serializer::RawAnswer;
 use serializer::Smi;
+use tables::Form;
 use vectors::counts::Outcome;
 use vectors::counts::judged;
 use vectors::items::Files;
@@ -37,6 +38,8 @@ pub fn replayed(bytes: &[u8], files: Files, f: u8, body: Part) -> Outcome {
         18 => judged(instructions::last_bytes(bytes, files, call)),
         25 => judged(slots::slot_records(bytes, files, call)),
         26 => for_c::write(bytes, files, call),
+        29 => for_c::converted(bytes, files, call, Form::New),
+        30 => for_c::converted(bytes, files, call, Form::Old),
         0..=10 => Outcome::NotHere,
         _ => Outcome::Differs,
     }

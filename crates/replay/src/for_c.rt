@@ -1,5 +1,6 @@
-// The calls for C that decode and write one instruction.
+// The calls for C that decode and write one instruction, and that convert opcode files.
 use refusal::Refusal;
+use tables::Form;
 use vectors::counts::Outcome;
 use vectors::counts::judged;
 use vectors::items::Files;
@@ -100,7 +101,6 @@ fn write_in(bytes: &[u8], files: Files, call: &[u8], out: &mut [u8]) -> bool {
     is_written(bytes, files, call, &mut out[..len])
 }
 
-// Behind what was written, and after a refusal, the buffer is as it was.
 fn is_written(bytes: &[u8], files: Files, call: &[u8], out: &mut [u8]) -> bool {
     let mut place: usize = 7;
     let numbers = numbers_of(call);
@@ -112,7 +112,37 @@ fn is_written(bytes: &[u8], files: Files, call: &[u8], out: &mut [u8]) -> bool {
         &numbers,
         &mut place,
     );
-    let said = behind(call, 232);
+    is_put(behind(call, 232), status, place, out)
+}
+
+// 29 and 30: an opcode file in the other form, into a buffer of the recorded length.
+pub fn converted(bytes: &[u8], files: Files, call: &[u8], to: Form) -> Outcome {
+    let mut out = [7u8; 18496];
+    judged(converted_in(bytes, files, call, to, &mut out))
+}
+
+fn converted_in(bytes: &[u8], files: Files, call: &[u8], to: Form, out: &mut [u8]) -> bool {
+    let len = text::min(words::u64_at(call, 0) as usize, out.len());
+    is_converted(bytes, files, call, to, &mut out[..len])
+}
+
+fn is_converted(bytes: &[u8], files: Files, call: &[u8], to: Form, out: &mut [u8]) -> bool {
+    let mut place: usize = 7;
+    let status = status_of(bytes, files, to, out, &mut place);
+    is_put(behind(call, 8), status, place, out)
+}
+
+fn status_of(bytes: &[u8], files: Files, to: Form, out: &mut [u8], place: &mut usize) -> u8 {
+    let opcodes = file(bytes, files, 0);
+    let types = file(bytes, files, 1);
+    match to {
+        Form::New => capi::jscd_to_new(out, opcodes, types, place),
+        Form::Old => capi::jscd_to_old(out, opcodes, types, place),
+    }
+}
+
+// Behind what was put, and after a refusal, the buffer is as it was.
+fn is_put(said: &[u8], status: u8, place: usize, out: &[u8]) -> bool {
     if status == 0 {
         return said::is_text(said, out, place) && said::are_kept(out, place);
     }

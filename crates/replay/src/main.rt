@@ -34,7 +34,11 @@ fn main() {
         replay(b"write.vec"),
         both(replay(b"write-code.vec"), replay(b"write-v8.vec")),
     );
-    print_total(both(both(rows, store), both(both(code, v8), written)));
+    let converted = both(replay(b"convert.vec"), replay(b"convert-v8.vec"));
+    print_total(both(
+        both(rows, store),
+        both(both(code, v8), both(written, converted)),
+    ));
     print_wrong(replay(b"wrong.vec"));
 }
 
@@ -78,9 +82,18 @@ fn counts_after(bytes: &[u8], files: Files, counts: Counts, item: Item) -> Count
 
 // Decoding is asked of the call for C too.
 fn counts_call(bytes: &[u8], files: Files, counts: Counts, f: u8, body: Part) -> Counts {
-    let after = counted(counts, f, calls::replayed(bytes, files, f, body));
+    let after = counted(counts, row_of(f), calls::replayed(bytes, files, f, body));
     if f != 13 {
         return after;
     }
     counted(after, 29, for_c::decode(bytes, files, lent(bytes, body)))
+}
+
+// The conversions have rows of their own.
+fn row_of(f: u8) -> u8 {
+    match f {
+        29 => 37,
+        30 => 38,
+        _ => f,
+    }
 }

@@ -1,11 +1,13 @@
 // Replays the recorded walks: each is asked of our own walk check, and answers and marks are compared.
 mod answers;
 mod each;
-mod handled;
 mod shown;
 mod tries;
 mod walks;
 
+use tries::Tries;
+use tries::no_tries;
+use tries::tries_after;
 use vectors::counts::Counts;
 use vectors::counts::Outcome;
 use vectors::counts::UNKNOWN;
@@ -62,26 +64,11 @@ fn walks_3() -> Total {
 // With handler records.
 fn walks_4() -> Total {
     let handlers = rewalk(b"walk-handlers.vec", true);
-    let v8 = both(retry(b"walk-tries.vec"), retry(b"walk-tries-v8.vec"));
+    let v8 = both(
+        rewalk(b"walk-tries.vec", false),
+        rewalk(b"walk-tries-v8.vec", false),
+    );
     both(handlers, v8)
-}
-
-// A file of real functions with handlers: beside the comparison it is said how many handlers are reached.
-fn retry(name: &[u8]) -> Total {
-    let mut buffer = [0u8; 1048576];
-    retry_in(name, &mut buffer)
-}
-
-fn retry_in(name: &[u8], buffer: &mut [u8; 1048576]) -> Total {
-    retry_with(name, buffer)
-}
-
-fn retry_with(name: &[u8], buffer: &mut [u8]) -> Total {
-    let len = read(name, buffer);
-    let whole = Part { at: 0, len };
-    let total = print_counts(name, ask_file(lent(buffer, whole), false));
-    tries::print(tries::of_file(lent(buffer, whole)));
-    total
 }
 
 // A file, in a buffer that is longer than any of them; its named walks are printed, or not.
@@ -94,24 +81,36 @@ fn rewalk_in(name: &[u8], shows: bool, buffer: &mut [u8; 1048576]) -> Total {
     rewalk_with(name, shows, buffer)
 }
 
+// Where it has functions with handlers it is said how many handlers are reached.
 fn rewalk_with(name: &[u8], shows: bool, buffer: &mut [u8]) -> Total {
     let len = read(name, buffer);
     let whole = Part { at: 0, len };
-    print_counts(name, ask_file(lent(buffer, whole), shows))
+    let seen = ask_file(lent(buffer, whole), shows);
+    let total = print_counts(name, seen.counts);
+    tries::print(seen.tries);
+    total
+}
+
+// What the calls of a file came to.
+struct Seen {
+    counts: Counts,
+    tries: Tries,
 }
 
 // The calls of a file; those with a name are printed, or not.
-fn ask_file(bytes: &[u8], shows: bool) -> Counts {
+fn ask_file(bytes: &[u8], shows: bool) -> Seen {
     let mut counts = no_counts();
+    let mut tries = no_tries();
     let mut files = no_files();
     let mut at = 0;
     while at < bytes.len() {
         let item = item_at(bytes, at);
         files = files_after(bytes, files, item);
         counts = counts_after(bytes, files, counts, item, shows);
+        tries = tries_after(bytes, files, tries, item);
         at = item.next;
     }
-    counts
+    Seen { counts, tries }
 }
 
 fn counts_after(bytes: &[u8], files: Files, counts: Counts, item: Item, shows: bool) -> Counts {
@@ -138,17 +137,21 @@ fn counts_call(
             let after = counted(
                 counts,
                 f,
-                judged(walks::of_object(bytes, files, call, number)),
+                judged(walks::of_object(bytes, files, call, false, number)),
             );
-            counted(after, 28, judged(walks::for_c(bytes, files, call)))
+            counted(after, 28, judged(walks::for_c(bytes, files, call, false)))
         }
         20 => {
             let after = counted(
                 counts,
                 f,
-                judged(walks::of_code(bytes, files, call, number)),
+                judged(walks::of_code(bytes, files, call, false, number)),
             );
-            counted(after, 32, judged(walks::code_for_c(bytes, files, call)))
+            counted(
+                after,
+                32,
+                judged(walks::code_for_c(bytes, files, call, false)),
+            )
         }
         21 => {
             let after = counted(counts, f, judged(each::last_bytes(bytes, files, call)));
@@ -169,16 +172,24 @@ fn counts_with(
 ) -> Counts {
     match f {
         27 => {
-            let after = counted(counts, 30, judged(handled::of_object(bytes, files, call)));
-            counted(after, 35, judged(handled::for_c(bytes, files, call)))
+            let after = counted(
+                counts,
+                30,
+                judged(walks::of_object(bytes, files, call, true, number)),
+            );
+            counted(after, 35, judged(walks::for_c(bytes, files, call, true)))
         }
         28 => {
             let after = counted(
                 counts,
                 31,
-                judged(handled::of_code(bytes, files, call, number)),
+                judged(walks::of_code(bytes, files, call, true, number)),
             );
-            counted(after, 36, judged(handled::code_for_c(bytes, files, call)))
+            counted(
+                after,
+                36,
+                judged(walks::code_for_c(bytes, files, call, true)),
+            )
         }
         _ => counted(counts, UNKNOWN, Outcome::Differs),
     }

@@ -1,15 +1,12 @@
-// Real functions with V8's own handler tables: each is closed and each handler is reached. This is told from our answers and marks alone,
-// whatever is recorded.
-use crate::handled;
+// Functions with handler records: how many are closed, and how many handlers are reached. This is told from our answers and marks alone, whatever is recorded: of
+// real functions with V8's own handler tables each is closed, and each handler is reached.
+use crate::walks;
 use libc::STDOUT_FILENO;
 use vectors::items::Files;
 use vectors::items::Item;
 use vectors::items::What;
 use vectors::items::file;
-use vectors::items::files_after;
-use vectors::items::item_at;
 use vectors::items::kind_of;
-use vectors::items::no_files;
 use walk::Walked;
 
 // Functions, those that are closed, their records, and those of these whose handler has a mark.
@@ -20,21 +17,7 @@ pub struct Tries {
     pub reached: u64,
 }
 
-// The calls of 27 in a file.
-pub fn of_file(bytes: &[u8]) -> Tries {
-    let mut tries = no_tries();
-    let mut files = no_files();
-    let mut at = 0;
-    while at < bytes.len() {
-        let item = item_at(bytes, at);
-        files = files_after(bytes, files, item);
-        tries = tries_after(bytes, files, tries, item);
-        at = item.next;
-    }
-    tries
-}
-
-fn no_tries() -> Tries {
+pub fn no_tries() -> Tries {
     Tries {
         functions: 0,
         closed: 0,
@@ -43,7 +26,8 @@ fn no_tries() -> Tries {
     }
 }
 
-fn tries_after(bytes: &[u8], files: Files, tries: Tries, item: Item) -> Tries {
+// Counts the functions of 27.
+pub fn tries_after(bytes: &[u8], files: Files, tries: Tries, item: Item) -> Tries {
     match kind_of(item) {
         What::Sets => tries,
         What::Call(f) => {
@@ -63,7 +47,7 @@ fn with_function(bytes: &[u8], files: Files, tries: Tries) -> Tries {
 }
 
 fn with_function_in(bytes: &[u8], files: Files, tries: Tries, marks: &mut [u8]) -> Tries {
-    let walked = handled::walk_object(bytes, files, marks);
+    let walked = walks::walk_object(bytes, files, true, marks);
     let handlers = file(bytes, files, 9);
     let n = reached(handlers, marks);
     Tries {
@@ -99,7 +83,11 @@ fn reached(handlers: &[u8], marks: &[u8]) -> u64 {
     n
 }
 
+// Where there are any.
 pub fn print(tries: Tries) {
+    if tries.functions == 0 {
+        return;
+    }
     io::write_all(STDOUT_FILENO, b"tries: ");
     print_2(tries.functions, b" functions, ", tries.closed, b" closed; ");
     print_2(tries.records, b" handlers, ", tries.reached, b" reached\n");

@@ -1,4 +1,4 @@
--- 01's sample table, under its real names, as the record files.
+-- 01's sample table, under its real names, as the record files; opcodes with their flows, as 02's Wish 6 fills them in.
 use Prim.Native.Nat.{ℕ, _-_, _/_, _%_}
 use Prim.Native.String.{String}
 use mathlib.Core.List.{List, [], _∷_, _++_}
@@ -9,9 +9,9 @@ use Rattle.laws.specs.Ascii.{ascii}
 unfoldable pub padded : ℕ → List ℕ → List ℕ
 padded n l = take n (l ++ replicate n 0)
 
--- an opcode record: its name, prefix mark and type codes
-unfoldable pub opcode : String → ℕ → List ℕ → List ℕ
-opcode name prefix types = padded 40 (ascii name) ++ padded 24 (prefix ∷ length types ∷ types)
+-- an opcode record: its name, prefix mark, type codes and the bytes of its flow
+unfoldable pub opcode : String → ℕ → List ℕ → List ℕ → List ℕ
+opcode name prefix types flow = padded 40 (ascii name) ++ padded 10 (prefix ∷ length types ∷ types) ++ padded 22 flow
 
 -- a type record of a size, scalable or not
 unfoldable pub typed : String → ℕ → ℕ → List ℕ
@@ -20,9 +20,10 @@ typed name size scalable = padded 28 (ascii name) ++ (size ∷ scalable ∷ 1 �
 -- 9 is Imm, 1 RegOut, 11 UImm, 10 Idx, 15 RuntimeId, 6 RegList, 8 RegCount
 unfoldable pub opcodes : List ℕ
 opcodes =
-    opcode "Wide" 1 [] ++ opcode "ExtraWide" 2 [] ++ opcode "LdaZero" 0 [] ++ opcode "LdaSmi" 0 (9 ∷ []) ++ opcode "Star" 0 (1 ∷ [])
-    ++ opcode "Jump" 0 (11 ∷ []) ++ opcode "JumpIfTrue" 0 (11 ∷ []) ++ opcode "JumpLoop" 0 (11 ∷ 9 ∷ []) ++ opcode "JumpConstant" 0 (10 ∷ [])
-    ++ opcode "SwitchOnSmiNoFeedback" 0 (10 ∷ 11 ∷ 9 ∷ []) ++ opcode "CallRuntime" 0 (15 ∷ 6 ∷ 8 ∷ []) ++ opcode "Return" 0 []
+    opcode "Wide" 1 [] [] ++ opcode "ExtraWide" 2 [] [] ++ opcode "LdaZero" 0 [] [] ++ opcode "LdaSmi" 0 (9 ∷ []) [] ++ opcode "Star" 0 (1 ∷ []) []
+    ++ opcode "Jump" 0 (11 ∷ []) (2 ∷ []) ++ opcode "JumpIfTrue" 0 (11 ∷ []) (3 ∷ []) ++ opcode "JumpLoop" 0 (11 ∷ 9 ∷ []) (4 ∷ [])
+    ++ opcode "JumpConstant" 0 (10 ∷ []) (2 ∷ 1 ∷ []) ++ opcode "SwitchOnSmiNoFeedback" 0 (10 ∷ 11 ∷ 9 ∷ []) (5 ∷ 0 ∷ 0 ∷ 1 ∷ [])
+    ++ opcode "CallRuntime" 0 (15 ∷ 6 ∷ 8 ∷ []) [] ++ opcode "Return" 0 [] (1 ∷ [])
 
 -- "RuntimeId: 2, fixed; others 1, scalable"
 unfoldable pub types : List ℕ

@@ -15,7 +15,7 @@ use Rattle.laws.proofs.Scan.{first-here, first-next, first-end, first-within, f
 use Rattle.laws.proofs.Tests.{clash, under?, same?, or-either, eqb-along}
 use Rattle.words.specs.Le.{leAt}
 use Rattle.words.proofs.Le.{Bytes, leAt-none, leAt-past}
-use Rattle.tables.specs.Records.{noType, opcodeOk}
+use Rattle.tables.specs.Records.{noType, fieldsOk}
 use Rattle.tables.specs.Names.{isName, notName, notZero, nameOk, differs, isNamed}
 use Rattle.tables.specs.mirror.Fields.{isFine, Fine, codesFit}
 use Rattle.tables.proofs.Rows.{leAt-same, named-byte, named-same}
@@ -63,21 +63,7 @@ module _ (s : List ℕ) (from to : ℕ) (room : to ≤ length s) where
       found : firstFrom (notZero s) from (to - from) ≡ from + firstFrom (differs s from []) 0 (to - from)
       found = let start : from + 0 ≡ from = omega arith in rw start at (first-along (notZero s) (differs s from []) from 0 (to - from) (λ k low high. refl))
 
--- ---- a search that finds nothing, in two parts, and in the bytes of a number
-none-split : (p : ℕ → Bool) (a b c : ℕ) → a ≤ b → b ≤ c → eqb (firstFrom p a (c - a)) c ≡ (eqb (firstFrom p a (b - a)) b && eqb (firstFrom p b (c - b)) c)
-none-split p a b c low high = ⊎-elim none some (same? (firstFrom p a (b - a)) b)
-  where
-    none : firstFrom p a (b - a) ≡ b → eqb (firstFrom p a (c - a)) c ≡ (eqb (firstFrom p a (b - a)) b && eqb (firstFrom p b (c - b)) c)
-    none e =
-        let n : a + (b - a) ≡ b = omega arith in
-        rw (eq-eqb _ _ e, first-past p a b c low high (λ k l m. first-none p a (b - a) (e ∙ sym n) k l (omega arith)))
-
-    some : (firstFrom p a (b - a) ≡ b → ⊥) → eqb (firstFrom p a (c - a)) c ≡ (eqb (firstFrom p a (b - a)) b && eqb (firstFrom p b (c - b)) c)
-    some x =
-        let h = first-within p a (b - a) .1 in
-        let f : firstFrom p a (b - a) < b = omega arith in
-        rw (ne-eqb _ _ x, first-more p a (b - a) (c - a) (omega arith) (omega arith)) (ne-eqb (firstFrom p a (b - a)) c (λ e. omega arith))
-
+-- ---- a search that finds nothing, in the bytes of a number
 none-word : (s : List ℕ) (i m : ℕ) → eqb (leAt s i m) 0 ≡ eqb (firstFrom (notZero s) i m) (i + m)
 none-word s i m = ⊎-elim (λ (z : leAt s i m ≡ 0). eq-eqb _ _ z ∙ sym (eq-eqb _ _ (none z))) (λ (x : leAt s i m ≡ 0 → ⊥). ne-eqb _ _ x ∙ sym (ne-eqb _ _ (λ e. x (zero e)))) (same? (leAt s i m) 0)
   where
@@ -136,19 +122,14 @@ module _ (s : List ℕ) (bytes : Bytes s) (at count known k rest : ℕ) (few : c
       let e : k ≡ count = omega arith in
       rw (eq-eqb _ _ (p .found ∙ first-end (noType s known) (at + k) (at + count) (omega arith) ∙ ap (λ (j : ℕ). at + j) e), p .left, e)
 
--- the codes of an opcode record and the zeros behind them
-pub codes-zeros : (s : List ℕ) (at known : ℕ) → getD s (at + 40) 0 ≤ 2 → getD s (at + 41) 0 ≤ 8
-    → (codesFit s (at + 42) (getD s (at + 41) 0) known && eqb (firstFrom (notZero s) (at + 50) (at + 64 - (at + 50))) (at + 64)) ≡ opcodeOk s at known
-unfolding codesFit opcodeOk
+-- the codes of an opcode record
+pub codes-zeros : (s : List ℕ) (at known : ℕ) → getD s (at + 40) 0 ≤ 2 → getD s (at + 41) 0 ≤ 8 → codesFit s (at + 42) (getD s (at + 41) 0) known ≡ fieldsOk s at known
+unfolding codesFit fieldsOk
 codes-zeros s at known mark few =
     let n = getD s (at + 41) 0 in
     let e : at + 42 + n + (8 - n) ≡ at + 50 = omega arith in
     let w : at + 50 - (at + 42 + n) ≡ 8 - n = omega arith in
-    rw (le-leb _ _ mark, le-leb _ _ few, none-split (notZero s) (at + 42 + n) (at + 50) (at + 64) (omega arith) (omega arith), w, none-word s (at + 42 + n) (8 - n), e) (go (eqb (firstFrom (noType s known) (at + 42) n) (at + 42 + n)) (eqb (firstFrom (notZero s) (at + 42 + n) (8 - n)) (at + 50)) (eqb (firstFrom (notZero s) (at + 50) (at + 64 - (at + 50))) (at + 64)))
-  where
-    go : (a b c : Bool) → ((a && b) && c) ≡ (a && (b && c))
-    go true b c = refl
-    go false b c = refl
+    rw (le-leb _ _ mark, le-leb _ _ few, w, none-word s (at + 42 + n) (8 - n), e)
 
 -- ---- bytes that may each stand before the next
 

@@ -100,7 +100,7 @@ pub(crate) fn check_all_names(
 }
 
 // The first of the records whose name, its first w bytes, is bad.
-fn check_names(s: &[u8], size: usize, w: u8) -> Check
+pub(crate) fn check_names(s: &[u8], size: usize, w: u8) -> Check
     requires { ⌜ (0 < size) × (w ≤ size) ⌝ }
     ensures { λ r. ⌜ r ≡ checkNames size w (now (s .entry)) ⌝ }
 {

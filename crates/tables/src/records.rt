@@ -1,5 +1,7 @@
-// Opcode and type records: rows 3 and 4, and what is read of them.
+// Opcode and type records: rows 3, 26 and 4, and what is read of them.
 use crate::FIXED_TYPES;
+use crate::Form;
+use crate::OLD_SIZE;
 use crate::OPCODE_SIZE;
 use crate::Prefixes;
 use crate::TYPE_NAME;
@@ -7,12 +9,14 @@ use crate::TYPE_SIZE;
 use refusal::Check;
 ghost use mathlib.Core.Path.{_≡_};
 ghost use Prim.Native.Nat.{_+_, _-_, _*_, _/_, _<_, _≤_, min};
+ghost use mathlib.Core.Bool.{cond, _&&_};
 ghost use lib.ListN.{length};
 ghost use Rattle.laws.specs.Scan.{firstFrom};
-ghost use Rattle.tables.specs.Records.{opcodeSize, opcodeStart, opcodeCount, typeCount, typeNameSize, typeNames, fixedTypes, operandCount, typeCode, width, prefixOp, prefixesOf, hasTypeName, nameFits, sizeFits, sizeGood, typeOk, typeFault, opcodeOk, opcodeFault};
+ghost use Rattle.tables.specs.Records.{opcodeSize, oldSize, opcodeStart, opcodeCount, typeCount, typeNameSize, typeNames, fixedTypes, operandCount, typeCode, width, prefixOp, prefixesOf, hasTypeName, nameFits, sizeFits, sizeGood, typeOk, typeFault};
+ghost use Rattle.tables.specs.Records.{zeros, fieldsOk, flowFits, sizeAs, faultAs};
 ghost use Rattle.tables.specs.mirror.Fields.{codesFit};
 ghost use Rattle.tables.specs.mirror.Rows.{rows};
-ghost use Rattle.tables.specs.Check.{checkOpcodes, checkTypes};
+ghost use Rattle.tables.specs.Check.{firstFault, checkTypes};
 
 // The width of an operand of type code t at a scale, at most 8.
 pub fn type_width(types: &[u8], t: u8, scale: u8) -> usize
@@ -51,10 +55,13 @@ pub fn operand_count(opcodes: &[u8], op: u8) -> u8
     words::byte_at(opcodes, (op as usize) * OPCODE_SIZE + 41)
 }
 
-// The type code of an opcode's operand k.
+// The type code of an opcode's operand k; 0 behind the eighth.
 pub fn type_code(opcodes: &[u8], op: u8, k: u8) -> u8
     ensures { λ r. ⌜ r ≡ typeCode (now (opcodes .entry)) op k ⌝ }
 {
+    if 8 <= k {
+        return 0;
+    }
     words::byte_at(opcodes, (op as usize) * OPCODE_SIZE + (42 + (k as usize)))
 }
 
@@ -68,16 +75,27 @@ pub fn prefix_ops(opcodes: &[u8]) -> Prefixes
     }
 }
 
-// Opcode records: row 3.
+// Opcode records: row 3, and 26.
 
-pub(crate) fn check_opcodes(opcodes: &[u8], types: &[u8]) -> Check
-    ensures { λ r. ⌜ r ≡ checkOpcodes (opcodeFault (now (opcodes .entry)) (typeCount (now (types .entry)))) (now (opcodes .entry)) ⌝ }
+// How many bytes a record of a form has.
+pub(crate) fn opcode_size(form: Form) -> usize
+    ensures { λ r. ⌜ r ≡ sizeAs form ⌝ }
+{
+    match form {
+        Form::Old => OLD_SIZE,
+        Form::New => OPCODE_SIZE,
+    }
+}
+
+pub(crate) fn check_opcodes(opcodes: &[u8], types: &[u8], form: Form) -> Check
+    ensures { λ r. ⌜ r ≡ firstFault (faultAs form (now (opcodes .entry)) (typeCount (now (types .entry)))) (length (now (opcodes .entry)) / sizeAs form) ⌝ }
 {
     let known = types.len() / TYPE_SIZE;
-    let n = opcodes.len() / OPCODE_SIZE;
+    let size = opcode_size(form);
+    let n = opcodes.len() / size;
     let mut i = 0;
     while i < n {
-        let fault = opcode_fault(opcodes, i, known);
+        let fault = opcode_fault(opcodes, i, known, form);
         if fault != 0 {
             return refusal::at_record(fault, i, n);
         }
@@ -86,22 +104,76 @@ pub(crate) fn check_opcodes(opcodes: &[u8], types: &[u8]) -> Check
     Check::Ok
 }
 
-// What is wrong with an opcode record, by 01's number; known types exist.
-fn opcode_fault(opcodes: &[u8], op: usize, known: usize) -> u8
-    requires { ⌜ op < opcodeCount (now opcodes) ⌝ }
-    ensures { λ r. ⌜ r ≡ opcodeFault (now (opcodes .entry)) known op ⌝ }
+// What is wrong with an opcode record, by its number in the table of refusals; known types exist.
+fn opcode_fault(opcodes: &[u8], op: usize, known: usize, form: Form) -> u8
+    requires { ⌜ op < length (now opcodes) / sizeAs form ⌝ }
+    ensures { λ r. ⌜ r ≡ faultAs form (now (opcodes .entry)) known op ⌝ }
 {
-    if opcode_ok(opcodes, op * OPCODE_SIZE, known) {
+    match form {
+        Form::Old => old_fault(opcodes, op * OLD_SIZE, known),
+        Form::New => new_fault(opcodes, op * OPCODE_SIZE, known),
+    }
+}
+
+// Of the record at place at: its fields, then zeros.
+fn old_fault(s: &[u8], at: usize, known: usize) -> u8
+    requires { ⌜ at + oldSize ≤ length (now s) ⌝ }
+    ensures { λ r. ⌜ r ≡ cond (fieldsOk (now (s .entry)) at known && zeros (now (s .entry)) (at + 50) (at + oldSize)) 0 3 ⌝ }
+{
+    if !fields_ok(s, at, known) {
+        return refusal::BAD_OPCODE;
+    }
+    let from = at + 50;
+    let to = at + OLD_SIZE;
+    if crate::names::all_zero(&s[from..to]) {
         0
     } else {
         refusal::BAD_OPCODE
     }
 }
 
-// Whether the opcode record at place at is good but for its name; known types exist.
-fn opcode_ok(s: &[u8], at: usize, known: usize) -> bool
+// Its fields, its flow, zeros; the flow is judged last.
+fn new_fault(s: &[u8], at: usize, known: usize) -> u8
     requires { ⌜ at + opcodeSize ≤ length (now s) ⌝ }
-    ensures { λ r. ⌜ r ≡ opcodeOk (now (s .entry)) at known ⌝ }
+    ensures { λ r. ⌜ r ≡ cond (fieldsOk (now (s .entry)) at known && zeros (now (s .entry)) (at + 54) (at + opcodeSize))
+        (cond (flowFits (now (s .entry)) at) 0 26) 3 ⌝ }
+{
+    if !fields_ok(s, at, known) {
+        return refusal::BAD_OPCODE;
+    }
+    let from = at + 54;
+    let to = at + OPCODE_SIZE;
+    if !crate::names::all_zero(&s[from..to]) {
+        return refusal::BAD_OPCODE;
+    }
+    if flow_fits(s, at) {
+        0
+    } else {
+        refusal::BAD_FLOW
+    }
+}
+
+// Whether each of the four bytes of the flow is one that there is.
+fn flow_fits(s: &[u8], at: usize) -> bool
+    requires { ⌜ at + 54 ≤ length (now s) ⌝ }
+    ensures { λ r. ⌜ r ≡ flowFits (now (s .entry)) at ⌝ }
+{
+    if s[at + 50] > 5 {
+        return false;
+    }
+    if s[at + 51] > 1 {
+        return false;
+    }
+    if s[at + 52] > 7 {
+        return false;
+    }
+    s[at + 53] <= 1
+}
+
+// Whether the mark, the count and the codes of the record at place at are good; known types exist.
+fn fields_ok(s: &[u8], at: usize, known: usize) -> bool
+    requires { ⌜ at + 50 ≤ length (now s) ⌝ }
+    ensures { λ r. ⌜ r ≡ fieldsOk (now (s .entry)) at known ⌝ }
 {
     if s[at + 40] > 2 {
         return false;
@@ -110,12 +182,7 @@ fn opcode_ok(s: &[u8], at: usize, known: usize) -> bool
     if count > 8 {
         return false;
     }
-    if !codes_fit(s, at + 42, count, known) {
-        return false;
-    }
-    let from = at + 50;
-    let to = at + 64;
-    crate::names::all_zero(&s[from..to])
+    codes_fit(s, at + 42, count, known)
 }
 
 // Whether the first count of the eight codes at place at are types' numbers and the others 0; the codes are read as one number.

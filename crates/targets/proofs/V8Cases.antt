@@ -1,38 +1,26 @@
--- V8's names have the flows of V8's jumps and switches; where V8's targets are not ours, and a prefixed switch: 01's sample, computed. Assumes nothing.
+-- Where V8's targets are not ours, and a prefixed switch: 01's sample, computed. Assumes nothing.
 use Prim.Native.Nat.{ℕ}
 use mathlib.Core.Path.{_≡_, refl}
 use mathlib.Core.Bool.{true, false}
-use mathlib.Core.List.{List, [], _∷_, map}
+use mathlib.Core.List.{List, [], _∷_}
 use lib.IntN.{ℤ, pos, negsuc}
-use lib.ListN.{getD, replicate}
-use Rattle.laws.specs.Scan.{firstFrom}
+use lib.ListN.{getD}
 use Rattle.words.specs.Signed.{modulo, wrap32}
-use Rattle.tables.specs.Names.{isNamed}
 use Rattle.operand.specs.declared.Operand.the-variants.{Nothing, Idx, Imm}
 use Rattle.decoder.specs.declared.Instr.{Instr}
 use Rattle.decoder.specs.Decode.{instrOf}
 use Rattle.decoder.specs.V8.{Bytecodes, typeInfo, isScalable, isUnsigned, unscaledSize, prefixSize, getOperand}
 use Rattle.decoder.specs.V8.OperandType.{kIdx, kUImm, kImm}
-use Rattle.flow.specs.Flow.{flowNames, flows, flowNumber, flowBy}
 use Rattle.serializer.specs.declared.Elem.the-variants as elem
 use Rattle.targets.specs.declared.Target.the-variants as target
 use Rattle.targets.specs.declared.Entries.{Entries}
 use Rattle.targets.specs.declared.Table.the-variants as table
 use Rattle.targets.specs.declared.Entry.the-variants as entry
 use Rattle.targets.specs.Targets.{operandOf, here, indexOf, numberOf, distanceBy, jumpTarget, sizedBy, tableBy, jumpTable, entryAt}
-use Rattle.targets.specs.V8.{Jump, conditionalImmediates, conditionalConstants, ConstantPool, getJumpTargetOffset, getJumpTableTargetOffsets}
+use Rattle.targets.specs.V8.{Jump, ConstantPool, getJumpTargetOffset, getJumpTableTargetOffsets}
 use Rattle.targets.specs.V8.Jump.{jumpLoop, jumpImmediate, jumpConstant}
 use Rattle.targets.specs.V8.Switch.{switchOnGeneratorState, switchOnSmiNoFeedback}
-use Rattle.targets.specs.Form.{jumpFlow, switchFlow, flowNamed}
-
-names-conditional : (map flowNamed conditionalImmediates ≡ replicate 10 (jumpFlow jumpImmediate true)) × (map flowNamed conditionalConstants ≡ replicate 10 (jumpFlow jumpConstant true))
-unfolding flowNames flows flowNumber flowBy firstFrom isNamed
-names-conditional = (refl, refl)
-
-names-always : map flowNamed ("JumpLoop" ∷ "Jump" ∷ "JumpConstant" ∷ "SwitchOnGeneratorState" ∷ "SwitchOnSmiNoFeedback" ∷ [])
-    ≡ jumpFlow jumpLoop false ∷ jumpFlow jumpImmediate false ∷ jumpFlow jumpConstant false ∷ switchFlow switchOnGeneratorState ∷ switchFlow switchOnSmiNoFeedback ∷ []
-unfolding flowNames flows flowNumber flowBy firstFrom isNamed
-names-always = refl
+use Rattle.targets.specs.Form.{jumpFlow, switchFlow}
 
 -- 05 Jump, 07 JumpLoop, 09 SwitchOnSmiNoFeedback of the sample
 abbrev v8 : Bytecodes

@@ -1,15 +1,13 @@
 -- Which of our instructions are V8's jumps and switches (V8.antt), and what V8's targets are here. `v8-jump` and `v8-switch` of
 -- proofs/V8.antt say that for such an instruction they are ours.
 use Prim.Native.Nat.{ℕ, zero, suc, _+_, _<_, _^_}
-use Prim.Native.String.{String}
 use mathlib.Core.Path.{_≡_}
 use mathlib.Core.Bool.{Bool, true, false, cond}
 use mathlib.Core.List.{List, [], _∷_}
 use lib.IntN.{ℤ, pos, negsuc, natAbs}
-use Rattle.laws.specs.Ascii.{ascii}
 use Rattle.decoder.specs.V8.{OperandType}
 use Rattle.decoder.specs.V8.OperandType.{kIdx, kUImm, kImm, kReg}
-use Rattle.flow.specs.Flow.{plain, flowNumber, flowBy}
+use Rattle.flow.specs.Flow.{plain}
 use Rattle.flow.specs.declared.Kind.the-variants as kind
 use Rattle.flow.specs.declared.Flow.{Flow}
 use Rattle.serializer.specs.declared.Elem.{Elem}
@@ -35,10 +33,6 @@ jumpFlow jumpConstant conditional = plain (cond conditional kind.Branches kind.J
 abbrev pub switchFlow : Switch → Flow
 switchFlow switchOnSmiNoFeedback = record { kind = kind.Switch; pool = false; first = 0; base = true }
 switchFlow switchOnGeneratorState = record { kind = kind.Switch; pool = false; first = 1; base = false }
-
--- our flow of a name, which stands in front of a record
-abbrev pub flowNamed : String → Flow
-flowNamed name = flowBy (flowNumber (ascii name) 0)
 
 -- bytecodes.h: the first operands of jumps and switches
 abbrev pub jumpTypes : Jump → List OperandType

@@ -1,7 +1,6 @@
 -- Where V8's jumps and switches go, from bytecode-array-iterator.cc (10.2 and 11.3) alone: nothing of ours stands here. An int is an integer;
 -- of a sum that does not fit C++ says nothing. Form.antt says which of our instructions these are.
 use Prim.Native.Nat.{ℕ, zero, suc, _+_}
-use Prim.Native.String.{String}
 use mathlib.Core.Bool.{Bool, cond}
 use mathlib.Core.List.{List, [], _∷_}
 use lib.IntN.{ℤ, pos, natAbs, negℤ, _+ℤ_}
@@ -11,17 +10,6 @@ use Rattle.decoder.specs.V8.OperandType.{kIdx, kUImm, kImm}
 -- the bytecodes that jump: kJumpLoop, the others that IsJumpImmediate, and those that IsJumpConstant
 pub data Jump : Type 0 where
   jumpLoop jumpImmediate jumpConstant : Jump
-
--- bytecodes.h: JUMP_CONDITIONAL_IMMEDIATE_BYTECODE_LIST and JUMP_CONDITIONAL_CONSTANT_BYTECODE_LIST; JumpLoop, Jump and JumpConstant jump always
-abbrev pub conditionalImmediates : List String
-conditionalImmediates =
-    "JumpIfToBooleanTrue" ∷ "JumpIfToBooleanFalse" ∷ "JumpIfTrue" ∷ "JumpIfFalse" ∷ "JumpIfNull" ∷ "JumpIfNotNull" ∷ "JumpIfUndefined" ∷ "JumpIfNotUndefined"
-    ∷ "JumpIfUndefinedOrNull" ∷ "JumpIfJSReceiver" ∷ []
-
-abbrev pub conditionalConstants : List String
-conditionalConstants =
-    "JumpIfToBooleanTrueConstant" ∷ "JumpIfToBooleanFalseConstant" ∷ "JumpIfNullConstant" ∷ "JumpIfNotNullConstant" ∷ "JumpIfUndefinedConstant"
-    ∷ "JumpIfNotUndefinedConstant" ∷ "JumpIfUndefinedOrNullConstant" ∷ "JumpIfTrueConstant" ∷ "JumpIfFalseConstant" ∷ "JumpIfJSReceiverConstant" ∷ []
 
 -- those that IsSwitch
 pub data Switch : Type 0 where

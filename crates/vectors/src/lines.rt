@@ -166,7 +166,7 @@ fn print_other(row: u8) {
     }
 }
 
-// Functions 27 and 28 are rows 30 and 31; then calls for C again.
+// Functions 27 and 28 are rows 30 and 31; then calls for C again, of which functions 29 and 30 are rows 37 and 38.
 fn print_later(row: u8) {
     match row {
         30 => put(b"walk_with"),
@@ -176,6 +176,8 @@ fn print_later(row: u8) {
         34 => put(b"jscd_entry"),
         35 => put(b"jscd_walk_with"),
         36 => put(b"jscd_walk_code_with"),
+        37 => put(b"jscd_to_new"),
+        38 => put(b"jscd_to_old"),
         _ => put(b"unknown"),
     }
 }

@@ -1,4 +1,4 @@
--- A refusal has one of 01's numbers, 1 to 20, or with handler records 1 to 25: so no refusal is told as "closed", "leaves" or "end". Assumes nothing.
+-- A refusal has one of the numbers 1 to 26: so no refusal is told as "closed", "leaves" or "end". Assumes nothing.
 use Prim.Native.Nat.{ℕ, zero, suc, _+_, _/_, _≤_}
 use mathlib.Core.Path.{_≡_, refl, sym, subst}
 use mathlib.Core.Bool.{Bool, true, false, cond, not, _&&_, _||_}
@@ -21,7 +21,7 @@ use Rattle.store.specs.Check.{sizesOk, badObject, badSlot, checkStore}
 use Rattle.serializer.specs.Field.{rawAt}
 use Rattle.tables.specs.Check.{records, checkNames, isFaulty, firstFault, checkTable}
 use Rattle.tables.specs.Names.{badName}
-use Rattle.tables.specs.Records.{opcodeSize, opcodeNameSize, mostOpcodes, typeSize, typeNameSize, fixedTypes, mostTypes, nameSize, mostRuntime, mostIntrinsic, opcodeCount, typeCount, opcodeStart, opcodeOk, opcodeFault, typeOk, typeFault}
+use Rattle.tables.specs.Records.{opcodeSize, opcodeNameSize, mostOpcodes, typeSize, typeNameSize, fixedTypes, mostTypes, nameSize, mostRuntime, mostIntrinsic, opcodeCount, typeCount, opcodeStart, zeros, fieldsOk, flowFits, opcodeFault, typeOk, typeFault}
 use Rattle.layout.specs.Layout.{layoutSize, badValue, layoutOf}
 use Rattle.header.specs.declared.HeaderAnswer.{HeaderAnswer}
 use Rattle.header.specs.declared.HeaderAnswer.the-variants as header-answer
@@ -46,53 +46,42 @@ use Rattle.graph.specs.Graph.Finding.{closed, leaves}
 use Rattle.steps.specs.Steps.{Source, listing, walkGraph}
 use Rattle.walk.specs.declared.Walked.{Walked}
 use Rattle.walk.specs.declared.Walked.the-variants as walked
-use Rattle.walk.specs.Walk.{answer, walkCheck, walkFound, walkSource, heldCheck, Given, plain, objectWith, walkWith, walkCall, lentWith, walkLentWith, walkLent}
+use Rattle.walk.specs.Walk.{answer, walkCheck, walkFound, walkSource, heldCheck, Given, objectWith, walkWith, lentWith, walkLentWith}
 use Rattle.handlers.specs.Handlers.{handlerCount, handlersWhole, badHandler, checkHandlers}
 
--- a number up to top
-pub record RowTo (top : ℕ) (r : Refusal) : Type 0 where
+pub record Row (r : Refusal) : Type 0 where
   pub least : 1 ≤ r .number
-  pub most : r .number ≤ top
-
-abbrev pub Row : Refusal → Type 0
-Row r = RowTo 20 r
+  pub most : r .number ≤ 26
 
 -- ---- checks
 refused-one : (r q : Refusal) → Refused r ≡ Refused q → r ≡ q
 refused-one r q e = cc
 
-pub record RowsTo (top : ℕ) (c : Check) : Type 0 where
-  pub row : (r : Refusal) → c ≡ Refused r → RowTo top r
+pub record RowOf (c : Check) : Type 0 where
+  pub row : (r : Refusal) → c ≡ Refused r → Row r
 
-abbrev pub RowOf : Check → Type 0
-RowOf c = RowsTo 20 c
-
-no-row : {top : ℕ} → RowsTo top Ok
+no-row : RowOf Ok
 no-row = record { row = λ r e. never r (sym e) }
 
-its-row : {top : ℕ} {r : Refusal} → RowTo top r → RowsTo top (Refused r)
-its-row {top} {r} h = record { row = λ q e. subst (RowTo top) (refused-one r q e) h }
+its-row : {r : Refusal} → Row r → RowOf (Refused r)
+its-row {r} h = record { row = λ q e. subst Row (refused-one r q e) h }
 
-either-row : {top : ℕ} {a b : Check} → RowsTo top a → RowsTo top b → RowsTo top (firstRefusal a b)
-either-row {top} {a} {b} p q = go a p
+either-row : {a b : Check} → RowOf a → RowOf b → RowOf (firstRefusal a b)
+either-row {a} {b} p q = go a p
   where
-    go : (a : Check) → RowsTo top a → RowsTo top (firstRefusal a b)
+    go : (a : Check) → RowOf a → RowOf (firstRefusal a b)
     go Ok p = q
     go (Refused r) p = p
 
-unless-row : {top : ℕ} (good : Bool) (n : ℕ) → 1 ≤ n → n ≤ top → RowsTo top (refuseUnless good n)
+unless-row : (good : Bool) (n : ℕ) → 1 ≤ n → n ≤ 26 → RowOf (refuseUnless good n)
 unless-row true n l h = no-row
 unless-row false n l h = its-row (record { least = l; most = h })
 
--- a lower bound is a higher one
-raised : {low top : ℕ} {c : Check} → low ≤ top → RowsTo low c → RowsTo top c
-raised h r = record { row = λ q e. record { least = r .row q e .least; most = omega (arith, h, r .row q e .most) } }
-
-bad-row : {top : ℕ} (n : ℕ) (bad : ℕ → Bool) (k : ℕ) → 1 ≤ n → n ≤ top → RowsTo top (firstBad n bad k)
-bad-row {top} n bad k l h = by-test (RowsTo top) (ltb (firstFrom bad 0 k) k) (λ t. its-row (record { least = l; most = h })) (λ t. no-row)
+bad-row : (n : ℕ) (bad : ℕ → Bool) (k : ℕ) → 1 ≤ n → n ≤ 26 → RowOf (firstBad n bad k)
+bad-row n bad k l h = by-test RowOf (ltb (firstFrom bad 0 k) k) (λ t. its-row (record { least = l; most = h })) (λ t. no-row)
 
 -- a fault that is found has a number other than 0
-fault-row : (fault : ℕ → ℕ) (n : ℕ) → ((k : ℕ) → fault k ≤ 20) → RowOf (firstFault fault n)
+fault-row : (fault : ℕ → ℕ) (n : ℕ) → ((k : ℕ) → fault k ≤ 26) → RowOf (firstFault fault n)
 fault-row fault n most =
     let at = firstFrom (isFaulty fault) 0 n in
     by-test RowOf (ltb at n)
@@ -109,15 +98,20 @@ table-row ops types runtime intrinsic layout =
     let right = records opcodeSize 1 mostOpcodes ops && records typeSize fixedTypes mostTypes types && records nameSize 0 mostRuntime runtime && records nameSize 0 mostIntrinsic intrinsic && records layoutSize 1 1 layout in
     either-row (unless-row right 1 (omega arith) (omega arith))
     (either-row (either-row (name opcodeSize opcodeNameSize ops) (either-row (name typeSize typeNameSize types) (either-row (name nameSize nameSize runtime) (name nameSize nameSize intrinsic))))
-    (either-row (fault-row (opcodeFault ops (typeCount types)) (opcodeCount ops) (λ k. small (opcodeOk ops (opcodeStart k) (typeCount types)) 3 (omega arith)))
-    (either-row (fault-row (typeFault types) (typeCount types) (λ k. small (typeOk types k) 4 (omega arith))) (bad-row 5 (badValue layout) 20 (omega arith) (omega arith)))))
+    (either-row (fault-row (opcodeFault ops (typeCount types)) (opcodeCount ops) (λ k. opcode (fieldsOk ops (opcodeStart k) (typeCount types) && zeros ops (opcodeStart k + 54) (opcodeStart k + opcodeSize)) (flowFits ops (opcodeStart k))))
+    (either-row (fault-row (typeFault types) (typeCount types) (λ k. type (typeOk types k))) (bad-row 5 (badValue layout) 20 (omega arith) (omega arith)))))
   where
     name : (size w : ℕ) (s : List ℕ) → RowOf (checkNames size w s)
     name size w s = bad-row 2 (badName s size w) (length s / size) (omega arith) (omega arith)
 
-    small : (b : Bool) (n : ℕ) → n ≤ 20 → cond b 0 n ≤ 20
-    small true n h = omega arith
-    small false n h = h
+    opcode : (good flow : Bool) → cond good (cond flow 0 26) 3 ≤ 26
+    opcode true true = omega arith
+    opcode true false = omega arith
+    opcode false flow = omega arith
+
+    type : (good : Bool) → cond good 0 4 ≤ 26
+    type true = omega arith
+    type false = omega arith
 
 store-row : (o s p : List ℕ) → RowOf (checkStore o s p)
 unfolding checkStore
@@ -155,7 +149,7 @@ HeadRow (Head.Op opcode scale at) = Unit {0}
 op-row : (code : List ℕ) (ops start scale at : ℕ) → HeadRow (opAt code ops start scale at)
 op-row code ops start scale at = by-test HeadRow (leb ops (getD code at 0)) (λ t. record { least = omega arith; most = omega arith }) (λ t. tt)
 
-behind-row : (code : List ℕ) (ops start n scale : ℕ) → 1 ≤ n → n ≤ 20 → HeadRow (behind code ops start n scale)
+behind-row : (code : List ℕ) (ops start n scale : ℕ) → 1 ≤ n → n ≤ 26 → HeadRow (behind code ops start n scale)
 behind-row code ops start n scale l h = by-test HeadRow (eqb (start + 1) (length code)) (λ t. record { least = l; most = h }) (λ t. op-row code ops start scale (start + 1))
 
 head-row : (code : List ℕ) (ops start wide extra : ℕ) → HeadRow (headAt code ops start wide extra)
@@ -169,7 +163,7 @@ head-row code ops start wide extra =
 abbrev OutcomeRow : Outcome → Type 0
 OutcomeRow o = RowOf (codeCheck o)
 
-short-row : (p : Part) → (1 ≤ shortNumber p) × (shortNumber p ≤ 20)
+short-row : (p : Part) → (1 ≤ shortNumber p) × (shortNumber p ≤ 26)
 short-row (Part.own t) = (omega arith, omega arith)
 short-row Part.count = (omega arith, omega arith)
 
@@ -215,61 +209,40 @@ held-row (header-answer.At h) = unless-row (eqb (h .length) 0 || ltb 0 (h .«cod
 held-row (header-answer.Refused r) = no-row
 
 -- ---- the handler records
-handlers-row : (hs : List ℕ) (n : ℕ) → RowsTo 25 (checkHandlers hs n)
+handlers-row : (hs : List ℕ) (n : ℕ) → RowOf (checkHandlers hs n)
 unfolding checkHandlers
 handlers-row hs n = either-row (unless-row (handlersWhole (length hs)) 24 (omega arith) (omega arith)) (bad-row 25 (badHandler hs n) (handlerCount hs) (omega arith) (omega arith))
 
--- of none
-none-row : (n : ℕ) → RowOf (checkHandlers [] n)
-unfolding checkHandlers firstFrom
-none-row n = no-row
-
 -- ---- the calls
-abbrev pub WalkedTo : ℕ → Walked → Type 0
-WalkedTo top walked.Closed = Unit {0}
-WalkedTo top (walked.Leaves n o) = Unit {0}
-WalkedTo top (walked.Refused r) = RowTo top r
-
 abbrev pub WalkedRow : Walked → Type 0
-WalkedRow w = WalkedTo 20 w
+WalkedRow walked.Closed = Unit {0}
+WalkedRow (walked.Leaves n o) = Unit {0}
+WalkedRow (walked.Refused r) = Row r
 
-module _ {top : ℕ} (high : 20 ≤ top) where
-  guarded-row : (c : Check) (M : List ℕ) (x : Walked × List ℕ) → RowsTo top c → WalkedTo top (x .0) → WalkedTo top (guardedOn c walked.Refused M x .0)
-  guarded-row Ok M x r w = w
-  guarded-row (Refused q) M x r w = r .row q refl
+guarded-row : (c : Check) (M : List ℕ) (x : Walked × List ℕ) → RowOf c → WalkedRow (x .0) → WalkedRow (guardedOn c walked.Refused M x .0)
+guarded-row Ok M x r w = w
+guarded-row (Refused q) M x r w = r .row q refl
 
-  source-row : (s : Source) (M : List ℕ) → RowsTo top (checkHandlers (s .handlers) (length (s .code))) → WalkedTo top (walkSource s M .0)
-  unfolding walkSource
-  source-row s M late =
-      let n = length (s .code) in
-      let decoded = list-row (decodes (s .code) (s .opcodes) (s .types) (s .rfs)) (decode-row (s .code) (s .opcodes) (s .types) (s .rfs)) (suc n) 0 in
-      let room = unless-row {top = top} (leb n (length M)) 18 (omega arith) (omega (arith, high)) in
-      guarded-row (walkCheck s (length M)) M (walkFound s M) (either-row (raised high (either-row decoded (switch-row (s .opcodes) (s .pooled) (listing s .instrs)))) (either-row room late)) (found (finding (walkGraph s)))
-    where
-      found : (f : Finding) → WalkedTo top (answer f)
-      found closed = tt
-      found (leaves n o) = tt
+source-row : (s : Source) (M : List ℕ) → WalkedRow (walkSource s M .0)
+unfolding walkSource
+source-row s M =
+    let n = length (s .code) in
+    let decoded = list-row (decodes (s .code) (s .opcodes) (s .types) (s .rfs)) (decode-row (s .code) (s .opcodes) (s .types) (s .rfs)) (suc n) 0 in
+    let room = unless-row (leb n (length M)) 18 (omega arith) (omega arith) in
+    guarded-row (walkCheck s (length M)) M (walkFound s M)
+    (either-row (either-row decoded (switch-row (s .opcodes) (s .pooled) (listing s .instrs))) (either-row room (handlers-row (s .handlers) n))) (found (finding (walkGraph s)))
+  where
+    found : (f : Finding) → WalkedRow (answer f)
+    found closed = tt
+    found (leaves n o) = tt
 
-  with-row : (f : Files) (g : Given) (k : ℕ) (M : List ℕ) → RowsTo top (checkHandlers (g .handlers) (length (objectWith f g k .code))) → WalkedTo top (walkWith f g k M .0)
-  unfolding walkWith
-  with-row f g k M late =
-      let h = headerAt f k in
-      guarded-row (firstRefusal (checkFiles f k) (firstRefusal (headerCheck h) (heldCheck h))) M (walkSource (objectWith f g k) M)
-      (raised high (either-row (files-row f k) (either-row (header-row f k) (held-row h)))) (source-row (objectWith f g k) M late)
+pub walk-row : (f : Files) (g : Given) (k : ℕ) (M : List ℕ) → WalkedRow (walkWith f g k M .0)
+unfolding walkWith
+walk-row f g k M =
+    let h = headerAt f k in
+    guarded-row (firstRefusal (checkFiles f k) (firstRefusal (headerCheck h) (heldCheck h))) M (walkSource (objectWith f g k) M)
+    (either-row (files-row f k) (either-row (header-row f k) (held-row h))) (source-row (objectWith f g k) M)
 
-  lent-with-row : (f : Files) (g : Given) (w : PoolObject) (code M : List ℕ) → RowsTo top (checkHandlers (g .handlers) (length code)) → WalkedTo top (walkLentWith f g w code M .0)
-  unfolding walkLentWith
-  lent-with-row f g w code M late = guarded-row (checkLent f w code) M (walkSource (lentWith f g w code) M) (raised high (lent-row f w code)) (source-row (lentWith f g w code) M late)
-
--- 1 to 20 without handlers, 1 to 25 with them
-pub walk-row : (f : Files) (k : ℕ) (M : List ℕ) → WalkedRow (walkCall f k M .0)
-walk-row f k M = with-row (omega arith) f plain k M (none-row _)
-
-pub walk-with-row : (f : Files) (g : Given) (k : ℕ) (M : List ℕ) → WalkedTo 25 (walkWith f g k M .0)
-walk-with-row f g k M = with-row (omega arith) f g k M (handlers-row (g .handlers) _)
-
-pub walk-lent-row : (f : Files) (w : PoolObject) (code M : List ℕ) → WalkedRow (walkLent f w code M .0)
-walk-lent-row f w code M = lent-with-row (omega arith) f plain w code M (none-row _)
-
-pub walk-lent-with-row : (f : Files) (g : Given) (w : PoolObject) (code M : List ℕ) → WalkedTo 25 (walkLentWith f g w code M .0)
-walk-lent-with-row f g w code M = lent-with-row (omega arith) f g w code M (handlers-row (g .handlers) _)
+pub walk-lent-row : (f : Files) (g : Given) (w : PoolObject) (code M : List ℕ) → WalkedRow (walkLentWith f g w code M .0)
+unfolding walkLentWith
+walk-lent-row f g w code M = guarded-row (checkLent f w code) M (walkSource (lentWith f g w code) M) (lent-row f w code) (source-row (lentWith f g w code) M)

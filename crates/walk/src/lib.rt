@@ -22,7 +22,6 @@ ghost use mathlib.Core.List.{[]};
 ghost use Rattle.refusal.specs.declared.Check.the-variants.{Ok};
 ghost use Rattle.refusal.specs.Check.{refused, firstRefusal, refuseUnless};
 ghost use Rattle.decoder.specs.Decode.{decodeAt};
-ghost use Rattle.flow.specs.Flow.{Numbered};
 ghost use Rattle.flow.specs.Opcodes.{opcodesOf};
 ghost use Rattle.targets.specs.Targets.{found};
 ghost use Rattle.targets.specs.mirror.Search.{poolSearched, PoolBlocked};
@@ -446,7 +445,6 @@ fn keep_code(
 {
     let pool = f.pool;
     let blocks = targets::pool_blocks(slots, f.ts, pool);
-    let flows = flow::flow_numbers(opcodes);
     keep_all(
         code,
         opcodes,
@@ -454,14 +452,13 @@ fn keep_code(
         slots,
         payload,
         &blocks,
-        &flows,
         f,
         heads,
         words,
     )
 }
 
-// The same with a summary of the pool's slots, and the opcodes' flows.
+// The same with a summary of the pool's slots.
 fn keep_all(
     code: &[u8],
     opcodes: &[u8],
@@ -469,14 +466,13 @@ fn keep_all(
     slots: &[u8],
     payload: &[u8],
     blocks: &[u32],
-    flows: &[u8],
     f: Function,
     heads: &mut [u32],
     words: &mut [u32],
 ) -> Check
     requires { ⌜ Prefixed (now opcodes) f × (length (now code) ≤ 65536) × (length (now heads) ≡ length (now code))
         × (length (now words) ≡ length (now code)) × Clear (now heads)
-        × PoolBlocked (now slots) (f .ts) (f .pool) (now blocks) × Numbered (now opcodes) (now flows) 256 ⌝ }
+        × PoolBlocked (now slots) (f .ts) (f .pool) (now blocks) ⌝ }
     ensures { λ r. ⌜ Started
         (sourceOf (now (code .entry)) (now (opcodes .entry)) (now (types .entry)) (now (slots .entry)) (now (payload .entry)) [] f)
         (now (heads .exit)) (now (words .exit)) r ⌝ }
@@ -492,7 +488,7 @@ fn keep_all(
             Outcome::Done => {
                 let end = x.end;
                 let size = end - i;
-                let flow = flow::flow_in(flows, x.opcode);
+                let flow = flow::flow_of(opcodes, x.opcode);
                 let k = keep_at(
                     code,
                     opcodes,

@@ -1,6 +1,8 @@
 //! Cases from a seed: functions over many tables, stores that are odd or damaged, tables that are damaged.
 
 use oracle::codes;
+use oracle::convert::old_opcodes;
+use oracle::flow_cases::change_flows;
 use oracle::handlers::{self, Handler};
 use oracle::random::Random;
 use oracle::real::{self, Real};
@@ -39,6 +41,10 @@ impl Stock {
             let mut table = codes::table(r, &pools, k);
             if k % 3 != 0 {
                 flowing(r, &mut table);
+            }
+            // Of some the flows are not those of the names.
+            if k % 4 == 1 {
+                change_flows(r, &mut table);
             }
             tables.push(table);
         }
@@ -108,17 +114,46 @@ impl Stock {
         let mut files = self.function(r, turn).with_code(&[0x02]).files();
         for _ in 0..1 + r.below(2) {
             let file = r.below(5) as usize;
-            let body = &mut files.body[file];
-            let at = r.below(body.len() as u64 + 1) as usize;
-            match r.below(12) {
-                0 => body.truncate(at),
-                1 => body.extend(vec![0; *r.pick(&[1, 31, 32, 64, 80])]),
-                2 => body.clear(),
-                _ if at < body.len() => body[at] = *r.pick(&[0, 1, 2, 9, 255, b'_', b'-', b'z']),
-                _ => {}
-            }
+            damage(r, &mut files, file);
         }
         files
+    }
+
+    /// Opcodes and types to be converted: of records of 64 bytes or of 72, as they are or with a byte changed, put in or cut out.
+    pub fn to_convert(&self, r: &mut Random) -> Files {
+        let table = r.pick(&self.tables);
+        let mut files = Files::default();
+        files.body[..=TYPES].clone_from_slice(&table.body[..=TYPES]);
+        let keep = r.below(6) as usize;
+        if keep > 0 {
+            let most = files.count(OPCODES).min(keep * keep);
+            files.body[OPCODES].truncate(most * SIZES[OPCODES]);
+        }
+        if r.once_in(2) {
+            files.body[OPCODES] = old_opcodes(&files.body[OPCODES]);
+        }
+        for _ in 0..r.below(3) {
+            let file = r.below(2) as usize;
+            damage(r, &mut files, file);
+        }
+        files
+    }
+}
+
+/// A byte of a file changed, or some put in or cut out; in an opcode record the flow at times.
+fn damage(r: &mut Random, files: &mut Files, file: usize) {
+    let records = files.count(file) as u64;
+    let body = &mut files.body[file];
+    let at = match file == OPCODES && records > 0 && r.once_in(3) {
+        true => r.below(records) as usize * SIZES[OPCODES] + FLOW + r.below(4) as usize,
+        false => r.below(body.len() as u64 + 1) as usize,
+    };
+    match r.below(12) {
+        0 => body.truncate(at),
+        1 => body.extend(vec![0; *r.pick(&[1, 31, 32, 64, 72, 80])]),
+        2 => body.clear(),
+        _ if at < body.len() => body[at] = *r.pick(&[0, 1, 2, 9, 255, b'_', b'-', b'z']),
+        _ => {}
     }
 }
 
@@ -155,7 +190,8 @@ pub fn handlers(r: &mut Random, starts: &[u32], length: u32) -> Vec<u8> {
 /// Renames opcodes to jumps, switches and ends; half of these get the operands that they have in V8, or nearly.
 fn flowing(r: &mut Random, table: &mut Files) {
     for k in 0..table.count(OPCODES) {
-        let record = &mut table.body[OPCODES][64 * k..64 * (k + 1)];
+        let size = SIZES[OPCODES];
+        let record = &mut table.body[OPCODES][size * k..size * (k + 1)];
         if record[40] != 0 || r.once_in(3) {
             continue;
         }

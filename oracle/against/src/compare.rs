@@ -1,7 +1,8 @@
 //! Both sides asked, what they said counted, and a difference made small.
 
 use crate::cases::{self, Function};
-use crate::sides::{Handled, LentCode, Ours, Rust, Said};
+use crate::sides::{self, Handled, LentCode, Ours, Rust, Said};
+use oracle::flows::Flow;
 use oracle::handlers;
 use oracle::random::Random;
 use oracle::records::*;
@@ -13,14 +14,16 @@ const ROOM: usize = 1 << 18;
 /// So many differences are made small and shown.
 const SHOWN: usize = 20;
 /// The numbers that a listing, one instruction, and a walk check can be refused with.
-const OF_LISTING: [usize; 16] = [1, 2, 3, 4, 5, 6, 7, 8, 9, 11, 12, 13, 14, 15, 16, 17];
-const OF_DECODING: [usize; 12] = [1, 2, 3, 4, 5, 10, 11, 12, 13, 14, 15, 20];
-const OF_WALKS: [usize; 17] = [1, 2, 3, 4, 5, 6, 7, 8, 9, 11, 12, 13, 14, 15, 16, 18, 19];
+const OF_LISTING: [usize; 17] = [1, 2, 3, 26, 4, 5, 6, 7, 8, 9, 11, 12, 13, 14, 15, 16, 17];
+const OF_DECODING: [usize; 13] = [1, 2, 3, 26, 4, 5, 10, 11, 12, 13, 14, 15, 20];
+const OF_WALKS: [usize; 18] = [1, 2, 3, 26, 4, 5, 6, 7, 8, 9, 11, 12, 13, 14, 15, 16, 18, 19];
 /// The same with handler records; 10 is that of lent code.
-const OF_HANDLED: [usize; 20] =
-    [1, 2, 3, 4, 5, 6, 7, 8, 9, 10, 11, 12, 13, 14, 15, 16, 18, 19, 24, 25];
+const OF_HANDLED: [usize; 21] =
+    [1, 2, 3, 26, 4, 5, 6, 7, 8, 9, 10, 11, 12, 13, 14, 15, 16, 18, 19, 24, 25];
+/// Those of a conversion.
+const OF_CONVERSIONS: [usize; 7] = [1, 2, 3, 26, 4, 27, 17];
 /// One more than the highest number.
-const NUMBERS: usize = 26;
+const NUMBERS: usize = 28;
 /// As many marks as the code of nearly every case has bytes.
 const MARKS: usize = 1 << 12;
 /// As long as the listing of every short code.
@@ -35,6 +38,7 @@ pub struct Report {
     pub decoded: [u64; NUMBERS],
     pub walked: [u64; NUMBERS],
     pub handled: [u64; NUMBERS],
+    pub converted: [u64; NUMBERS],
     /// Of the walks that are answered: closed, leaving.
     pub closed: u64,
     pub leaving: u64,
@@ -46,6 +50,8 @@ pub struct Report {
     pub changed: u64,
     /// Listings, alike, that show entries of a switch under a prefix.
     pub prefixed: u64,
+    /// Listings, alike, by tables of which a flow is not that of the name.
+    pub flows: u64,
     pub not_comparable: u64,
     pub differences: Vec<String>,
     pub more: u64,
@@ -61,6 +67,7 @@ impl Report {
             self.decoded[k] += other.decoded[k];
             self.walked[k] += other.walked[k];
             self.handled[k] += other.handled[k];
+            self.converted[k] += other.converted[k];
         }
         self.handled_closed += other.handled_closed;
         self.handled_leaving += other.handled_leaving;
@@ -69,6 +76,7 @@ impl Report {
         self.leaving += other.leaving;
         self.empty += other.empty;
         self.prefixed += other.prefixed;
+        self.flows += other.flows;
         self.not_comparable += other.not_comparable;
         self.differences.extend(other.differences);
         self.more += other.more;
@@ -84,6 +92,10 @@ impl Report {
         out.extend(none("instruction", &OF_DECODING, &self.decoded));
         out.extend(none("walk check", &OF_WALKS, &self.walked));
         out.extend(none("walk check with handlers", &OF_HANDLED, &self.handled));
+        out.extend(none("conversion", &OF_CONVERSIONS, &self.converted));
+        if whole && self.flows == 0 {
+            out.push("no listing was by flows that are not those of the names".into());
+        }
         if whole && self.changed == 0 {
             out.push("no handlers changed the answer of a walk check".into());
         }
@@ -110,6 +122,7 @@ impl fmt::Display for Report {
             ("instructions", &self.decoded),
             ("walk checks", &self.walked),
             ("walk checks with handlers", &self.handled),
+            ("conversions", &self.converted),
         ];
         for (what, counts) in counted {
             let refused: Vec<String> = (1..NUMBERS)
@@ -129,6 +142,7 @@ impl fmt::Display for Report {
             self.handled_closed, self.handled_leaving, self.changed
         )?;
         writeln!(f, "listings with entries of a switch under a prefix: {}", self.prefixed)?;
+        writeln!(f, "listings by flows that are not those of the names: {}", self.flows)?;
         writeln!(f, "not comparable (two types of one name): {}", self.not_comparable)?;
         for line in self.missing(true) {
             writeln!(f, "{line}")?;
@@ -211,6 +225,38 @@ impl Compare {
         self.handlers(files, &[0x02, 0x0b], MARKS, turn);
     }
 
+    /// Opcodes and types converted both ways, with room and with too little.
+    pub fn convert(&mut self, r: &mut Random, files: &Files) {
+        for to_new in [true, false] {
+            let fits = files.body[OPCODES].len() / 8 * 9;
+            let room = if r.once_in(8) { r.below(fits as u64 + 1) as usize } else { fits };
+            self.case("conversions");
+            let (ours, own) = self.converted(files, to_new, room);
+            if ours == own {
+                self.report.converted[own.number()] += 1;
+                continue;
+            }
+            if self.to_show() {
+                let small = smaller_files(files, |files| {
+                    let (ours, own) = self.converted(files, to_new, room);
+                    ours != own
+                });
+                let (ours, own) = self.converted(&small, to_new, room);
+                let way = if to_new { "new" } else { "old" };
+                let whole = format!(
+                    "to_{way}, room {room}\n  ours {}\n  own  {}",
+                    ours.shown(),
+                    own.shown()
+                );
+                self.told(whole + &tables(&small));
+            }
+        }
+    }
+
+    fn converted(&self, files: &Files, to_new: bool, room: usize) -> (Said, Said) {
+        (self.ours.convert(files, to_new, room), sides::converted(files, to_new, room))
+    }
+
     /// A short code of the sample: its first instruction, its listing and its walks.
     pub fn short(&mut self, files: &Files, code: &[u8]) {
         self.case("short codes");
@@ -289,6 +335,7 @@ impl Compare {
         if same {
             self.report.listed[rust.number()] += 1;
             self.report.prefixed += rust.shows_prefixed() as u64;
+            self.report.flows += (rust.number() == 0 && other_flows(files)) as u64;
         }
         same
     }
@@ -474,6 +521,11 @@ fn smaller_files(files: &Files, mut differs: impl FnMut(&Files) -> bool) -> File
     small
 }
 
+/// Whether a flow is not that of its name.
+fn other_flows(files: &Files) -> bool {
+    files.all(OPCODES).any(|record| !Flow::of(&Opcode(record)).named)
+}
+
 fn store(files: &Files) -> String {
     (OBJECTS..=PAYLOAD)
         .map(|file| format!("\n  {} {}", NAMES[file], hex(&files.body[file])))
@@ -582,12 +634,30 @@ mod tests {
         }
     }
 
+    /// The same of conversions.
+    #[test]
+    fn a_converted_difference_is_found() {
+        let compare = Compare::new();
+        let files = oracle::sample::sample();
+        let mut other = files.clone();
+        other.body[OPCODES][FLOW] = 1;
+        let (ours, own) = compare.converted(&files, false, ROOM);
+        assert_eq!(ours, own);
+        assert_ne!(ours, sides::converted(&other, false, ROOM));
+        assert_ne!(ours, sides::converted(&files, true, ROOM));
+    }
+
     #[test]
     fn a_report_names_what_is_missing() {
         let report = Report::default();
         assert_eq!(
             report.missing(true).len(),
-            OF_LISTING.len() + OF_DECODING.len() + OF_WALKS.len() + OF_HANDLED.len() + 3
+            OF_LISTING.len()
+                + OF_DECODING.len()
+                + OF_WALKS.len()
+                + OF_HANDLED.len()
+                + OF_CONVERSIONS.len()
+                + 4
         );
         assert!(report.to_string().ends_with("0 differences\n"));
     }

@@ -114,6 +114,8 @@ fn run(options: &Options, job: u64) -> Result<Report, String> {
         let files = stock.table(&mut r, turn(case));
         compare.files(&mut r, "tables", &files);
         compare.decode(&files, &[0x02, 0x00], r.below(4) as usize);
+        let files = stock.to_convert(&mut r);
+        compare.convert(&mut r, &files);
     }
     done("tables");
     if job == 0 {

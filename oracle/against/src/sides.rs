@@ -3,6 +3,7 @@
 use jscd_capi as ours;
 use oracle::ask::Answer;
 use oracle::checks::{self, Refusal};
+use oracle::convert;
 use oracle::decode;
 use oracle::port::{Port, TABLE};
 use oracle::records::*;
@@ -13,6 +14,8 @@ use oracle::walks::{self, Outcome};
 #[derive(Debug, Clone, PartialEq)]
 pub enum Said {
     Text(Vec<u8>),
+    /// A converted file.
+    Bytes(Vec<u8>),
     /// An instruction: opcode, scale, end, number of operands, and three numbers for each.
     Numbers(Vec<u64>),
     End,
@@ -51,6 +54,7 @@ impl Said {
     pub fn shown(&self) -> String {
         match self {
             Said::Text(text) => String::from_utf8_lossy(text).into_owned(),
+            Said::Bytes(bytes) => format!("{bytes:02x?}"),
             Said::Numbers(numbers) => format!("{numbers:?}"),
             Said::End => "end".into(),
             Said::Walked(None, marks) => format!("closed, marks {marks:?}"),
@@ -169,6 +173,25 @@ impl Ours {
             }
         };
         marked(answer, marks, length)
+    }
+
+    /// The opcodes converted, to records of 72 bytes or of 64, into a buffer of so many bytes.
+    pub fn convert(&self, files: &Files, to_new: bool, room: usize) -> Said {
+        let [opcodes, types, ..] = &files.body;
+        let mut out = vec![FILLED; room];
+        let answer = match to_new {
+            true => ours::to_new(opcodes, types, &mut out),
+            false => ours::to_old(opcodes, types, &mut out),
+        };
+        let kept = *answer.as_ref().unwrap_or(&0);
+        if kept > room || out[kept..].iter().any(|byte| *byte != FILLED) {
+            return Said::Stray(format!("{answer:?}, and wrote elsewhere"));
+        }
+        out.truncate(kept);
+        match answer {
+            Ok(_) => Said::Bytes(out),
+            Err(refusal) => refusal.into(),
+        }
     }
 
     pub fn decode(&self, files: &Files, code: &[u8], start: usize) -> Said {
@@ -338,6 +361,15 @@ impl Rust {
             },
         })
     }
+}
+
+/// The conversions are not in the Rust: those of `oracle::convert`.
+pub fn converted(files: &Files, to_new: bool, room: usize) -> Said {
+    let answer = match to_new {
+        true => convert::to_new(files, room as u64),
+        false => convert::to_old(files, room as u64),
+    };
+    answer.map_or_else(Said::from, Said::Bytes)
 }
 
 static NO_STORE: Files = Files {

@@ -8,7 +8,7 @@ use oracle::port::{Port, STORE, TABLE};
 use oracle::records::Files;
 use oracle::vectors::{self, Writer};
 use oracle::walk_tries::{self, TriesRecording};
-use oracle::{cases, code_recording, instructions, recording, sample, v8};
+use oracle::{cases, code_recording, convert_recording, instructions, recording, sample, v8};
 use oracle::{entry_recording, header_recording, jump_recording, list_recording, named};
 use oracle::{handler_classes, handler_recording};
 use oracle::{programs, slot_recording, v8_lists};
@@ -32,6 +32,8 @@ const USAGE: &str = "usage:
   oracle record-slots SEED OUT        the same for all slot records of a store
   oracle record-entry SEED OUT        the same for single entries of switches
   oracle record-write FOLDER OUT..    write vectors of writing (three files), out of FOLDER's recordings, and count their classes
+  oracle record-convert SEED OUT      write vectors of the conversions of opcode records, and count their classes
+  oracle record-convert-v8 FOLDER OUT the same for V8's tables (v8-listings), both ways
   oracle record-wrong FOLDER PROGRAM OUT   write calls of FOLDER's recordings that PROGRAM asks, one thing changed in each answer
   oracle record-v8 FOLDER OUT         write vectors of what V8 printed (v8-listings), and count them
   oracle record-v8-list FOLDER OUT    write vectors of V8's whole listings, and count them
@@ -45,7 +47,7 @@ const USAGE: &str = "usage:
   oracle record-handlers SEED OUT     write vectors of the walk with handler records, and count their classes
   oracle record-tries EXPORTED PRINT OUT   write vectors of the walk over such functions with V8's handler tables, and count them
   oracle record-tries-v8 FOLDER OUT   the same for V8's functions (v8-listings)
-  oracle record-programs CRATES       write data, args and stdout of jscd_list, jscd_walk, file_cases
+  oracle record-programs CRATES       write data, args and stdout of jscd_list, jscd_walk, jscd_convert, file_cases
   oracle walk DIR [MARKS]             the walk over object 0's code with a mark buffer of so many bytes (65536)";
 
 fn main() -> ExitCode {
@@ -71,6 +73,8 @@ fn main() -> ExitCode {
         ["record-slots", seed, out] => record_slots(seed, out),
         ["record-entry", seed, out] => record_entry(seed, out),
         ["record-write", folder, out @ ..] => record_write(Path::new(folder), out),
+        ["record-convert", seed, out] => record_convert(seed, out),
+        ["record-convert-v8", folder, out] => record_convert_v8(Path::new(folder), out),
         ["record-wrong", folder, program, out] => record_wrong(Path::new(folder), program, out),
         ["record-named", out] => record_named(out),
         ["record-v8-list", folder, out] => record_v8_list(Path::new(folder), out),
@@ -224,6 +228,16 @@ fn record_write(folder: &Path, out: &[&str]) -> Result<bool, String> {
     }
     let recording = write_recording::record(folder)?;
     parts(out, &recording.writers, &recording.classes, &write_recording::wanted())
+}
+
+fn record_convert(seed: &str, out: &str) -> Result<bool, String> {
+    let recording = convert_recording::record(word(seed)?)?;
+    classified(out, &recording.writer, &recording.classes, &convert_recording::wanted())
+}
+
+fn record_convert_v8(folder: &Path, out: &str) -> Result<bool, String> {
+    let recording = convert_recording::record_v8(folder)?;
+    classified(out, &recording.writer, &recording.classes, &[])
 }
 
 fn record_wrong(folder: &Path, program: &str, out: &str) -> Result<bool, String> {

@@ -2,7 +2,6 @@ use denote.Ref.{now}
 use Rattle.function.specs.Files.{lentFiles}
 use Rattle.capi.specs.Told.{poolObject}
 use Rattle.capi.proofs.Laws.{lent-told}
-use native.Mathlib.Omega.{arith}
 use Rattle.walk.specs.Walk.{plain}
 use Rattle.walk.proofs.Rows.{walk-lent-row}
 use borrow.Author.Needs.{needs}
@@ -25,7 +24,7 @@ returns : tie.Need-returns
 returns c =
     let a = c .before .before .before .before .before .before .before .before .before .before .before .before .before .before .before .before .args in
     let f = lentFiles (now (a .opcodes)) (now (a .types)) (now (a .layout)) (now (a .objects)) (now (a .slots)) (now (a .payload)) in
-    lent-told 20 (omega arith) f plain (now (a .code)) (now (a .marks)) (c .before .before .before .before .before .before .before .pool-object .result) (poolObject (a .lent) (a .object)) (c .before .before .before .before .before .before .before .pool-object .ensures) (walk-lent-row f (poolObject (a .lent) (a .object)) (now (a .code)) (now (a .marks))) (c .before .before .before .before .before .walk-code .result) _ (c .before .before .before .before .before .walk-code .ensures) (c .tell-walked .ensures)
+    lent-told f plain (now (a .code)) (now (a .marks)) (c .before .before .before .before .before .before .before .pool-object .result) (poolObject (a .lent) (a .object)) (c .before .before .before .before .before .before .before .pool-object .ensures) (walk-lent-row f plain (poolObject (a .lent) (a .object)) (now (a .code)) (now (a .marks))) (c .before .before .before .before .before .walk-code .result) _ (c .before .before .before .before .before .walk-code .ensures) (c .tell-walked .ensures)
 
 pub jscd-walk-code-spec : {M : Type 1} → statement M
 jscd-walk-code-spec =

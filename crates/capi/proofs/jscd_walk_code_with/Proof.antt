@@ -2,9 +2,8 @@ use denote.Ref.{now}
 use Rattle.function.specs.Files.{lentFiles}
 use Rattle.capi.specs.Told.{poolObject}
 use Rattle.capi.proofs.Laws.{lent-told}
-use native.Mathlib.Omega.{arith}
 use Rattle.walk.specs.Walk.{givenOf}
-use Rattle.walk.proofs.Rows.{walk-lent-with-row}
+use Rattle.walk.proofs.Rows.{walk-lent-row}
 use borrow.Author.Needs.{needs}
 use Rattle.capi.proofs.jscd_walk_code_with.Statement.{statement}
 use Rattle.capi.proofs.jscd_walk_code_with.Tie as tie
@@ -26,7 +25,7 @@ returns c =
     let a = c .before .before .before .before .before .before .before .before .before .before .before .before .before .before .before .before .before .args in
     let f = lentFiles (now (a .opcodes)) (now (a .types)) (now (a .layout)) (now (a .objects)) (now (a .slots)) (now (a .payload)) in
     let g = givenOf (now (a .handlers)) in
-    lent-told 25 (omega arith) f g (now (a .code)) (now (a .marks)) (c .before .before .before .before .before .before .before .pool-object .result) (poolObject (a .lent) (a .object)) (c .before .before .before .before .before .before .before .pool-object .ensures) (walk-lent-with-row f g (poolObject (a .lent) (a .object)) (now (a .code)) (now (a .marks))) (c .before .before .before .before .before .walk-code-with .result) _ (c .before .before .before .before .before .walk-code-with .ensures) (c .tell-walked .ensures)
+    lent-told f g (now (a .code)) (now (a .marks)) (c .before .before .before .before .before .before .before .pool-object .result) (poolObject (a .lent) (a .object)) (c .before .before .before .before .before .before .before .pool-object .ensures) (walk-lent-row f g (poolObject (a .lent) (a .object)) (now (a .code)) (now (a .marks))) (c .before .before .before .before .before .walk-code-with .result) _ (c .before .before .before .before .before .walk-code-with .ensures) (c .tell-walked .ensures)
 
 pub jscd-walk-code-with-spec : {M : Type 1} → statement M
 jscd-walk-code-with-spec =

@@ -23,14 +23,14 @@ use Rattle.disasm.proofs.check_lines.Statement.{statement}
 use Rattle.disasm.proofs.check_lines.Tie as tie
 
 abbrev Inv-loop : tie.InvT-loop
-Inv-loop code opcodes types flows f p₀ check₀ i₀ p check i = RoomInv (opcodesOf opcodes) (found (f .pool)) (decodedBy code opcodes types f) (length code) p check i
+Inv-loop code opcodes types f p₀ check₀ i₀ p check i = RoomInv (opcodesOf opcodes) (found (f .pool)) (decodedBy code opcodes types f) (length code) p check i
 
 abbrev μ-loop : tie.MeasureT-loop
-μ-loop code opcodes types flows f p₀ check₀ i₀ p check i = length code - i
+μ-loop code opcodes types f p₀ check₀ i₀ p check i = length code - i
 
 -- from the loop's head back to the function's entry, and what is decoded at the place that the loop stands at
 abbrev start : tie.At-loop Inv-loop μ-loop → tie.Start Inv-loop μ-loop
-start l = l .before .before .before .before .before
+start l = l .before .before .before .before
 
 abbrev here : tie.At-loop Inv-loop μ-loop → Decoded
 here l = let a = start l .args in decodedBy (now (a .code)) (now (a .opcodes)) (now (a .types)) (a .f) (l .loop .i)
@@ -75,8 +75,8 @@ enum-told-2 c = search needs
 sub-size : tie.Need-sub-size Inv-loop μ-loop
 sub-size c = omega (arith, progress c .0)
 
-flow-in-requires : tie.Need-flow-in-requires Inv-loop μ-loop
-flow-in-requires c κs = search needs
+flow-of-requires : tie.Need-flow-of-requires Inv-loop μ-loop
+flow-of-requires c κs = search needs
 
 table-at-requires : tie.Need-table-at-requires Inv-loop μ-loop
 table-at-requires c κs = search needs
@@ -117,7 +117,7 @@ loop-again c =
     let most = counted (now (a .code)) ops (now (a .types)) (l .loop .i) (a .f .frame .«reg_file_start») (a .f .wide) (a .f .extra) in
     let count = c .before .before .before .before .operand-count .ensures ∙ ap (λ (y : Extent). operandCount (now (a .opcodes)) (y .opcode)) (is (c .before .before .before .before .before .before .before .before .before)) in
     checked-done _ _ _ _ (l .loop .inv) x (is (c .before .before .before .before .before .before .before .before .before)) {n = min (c .before .before .before .before .operand-count .result) 8} (c .before .before .before .before .before .before .before .enum-told2 .given .1) (q .0) (q .1) offset (omega (arith, most, count))
-    (c .before .before .before .before .before .before .flow-in .ensures (now (a .opcodes)) (start l .pre)) (c .before .before .before .before .before .table-at .ensures) (c .before .first-refusal .ensures ∙ ap (firstRefusal (l .loop .check)) (c .before .before .table-check .ensures))
+    (c .before .before .before .before .before .before .flow-of .ensures) (c .before .before .before .before .before .table-at .ensures) (c .before .first-refusal .ensures ∙ ap (firstRefusal (l .loop .check)) (c .before .before .table-check .ensures))
     (c .saturating-add .ensures ∙ ap (λ (n : ℕ). place (l .loop .p + n)) (c .before .before .before .line-room .ensures))
 
 returns-3 : tie.Need-returns-3 Inv-loop μ-loop
@@ -141,7 +141,7 @@ check-lines-spec =
     returns-2
     enum-told-2
     sub-size
-    flow-in-requires
+    flow-of-requires
     table-at-requires
     operand-count-requires
     cast-line-room

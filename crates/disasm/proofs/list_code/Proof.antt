@@ -24,32 +24,32 @@ enum-told : tie.Need-enum-told
 enum-told c = search needs
 
 -- what the first pass says of the header's code
-checked : (c : tie.After-check-lines) → let a = c .before .before .before .before .before .before .before .before .before .before .args in
+checked : (c : tie.After-check-lines) → let a = c .before .before .before .before .before .before .before .before .before .args in
     Checked (opcodesOf (now (a .opcodes))) (found (a .f .pool)) (listedBy (codeOf (now (a .payload)) (a .h)) (now (a .opcodes)) (now (a .types)) (a .f)) (c .check-lines .result)
 checked c = rw (c .before .code-of .ensures) at (c .check-lines .ensures)
 
 put-all-requires : tie.Need-put-all-requires
-put-all-requires c κs = (c .before .before .before .before .before .before .before .before .before .before .before .before .before .before .pre, check-fine _ (checked (c .before .before .before .before)) (c .before .before .enum-told .given .1))
+put-all-requires c κs = check-fine _ (checked (c .before .before .before .before)) (c .before .before .enum-told .given .1)
 
 list-measured-requires : tie.Need-list-measured-requires
-list-measured-requires c κs = (c .before .before .before .before .before .before .before .before .before .before .before .before .before .before .pre, check-fine _ (checked (c .before .before .before .before)) (c .before .before .enum-told .given .1))
+list-measured-requires c κs = check-fine _ (checked (c .before .before .before .before)) (c .before .before .enum-told .given .1)
 
 returns : tie.Need-returns
-returns c = check-refused _ _ _ (now (c .before .before .before .before .before .before .before .before .before .before .before .before .before .args .out)) (checked (c .before .before .before)) (c .before .check .given .0 .0) (c .before .check .given .1)
+returns c = check-refused _ _ _ (now (c .before .before .before .before .before .before .before .before .before .before .before .before .args .out)) (checked (c .before .before .before)) (c .before .check .given .0 .0) (c .before .check .given .1)
 
 same-length : tie.Need-same-length
 same-length c = search needs
 
 returns-2 : tie.Need-returns-2
 returns-2 c =
-    let s = c .before .before .before .before .before .before .before .before .before .before .before .before .before .before .before .before .before in
+    let s = c .before .before .before .before .before .before .before .before .before .before .before .before .before .before .before .before in
     check-fits _ _ _ (now (s .args .out)) (checked (c .before .before .before .before .before .before .before)) (c .before .before .before .before .before .enum-told .given .1) (names-fit (now (s .args .opcodes))) (omega (arith, s .good)) (omega (arith, c .before .before .before .before .if1 .taken)) (c .before .before .put-all .ensures)
 
 same-length-2 : tie.Need-same-length-2
 same-length-2 c = search needs
 
 returns-3 : tie.Need-returns-3
-returns-3 c = check-written _ _ _ (now (c .before .before .before .before .before .before .before .before .before .before .before .before .before .before .before .before .before .args .out)) (checked (c .before .before .before .before .before .before .before)) (c .before .before .before .before .before .enum-told .given .1) (c .before .before .list-measured .ensures)
+returns-3 c = check-written _ _ _ (now (c .before .before .before .before .before .before .before .before .before .before .before .before .before .before .before .before .args .out)) (checked (c .before .before .before .before .before .before .before)) (c .before .before .before .before .before .enum-told .given .1) (c .before .before .list-measured .ensures)
 
 pub list-code-spec : {M : Type 1} → statement M
 list-code-spec =

@@ -26,7 +26,7 @@ same-length c = search needs
 
 returns : tie.Need-returns
 returns c =
-    let s = c .before .before .before .before .before .before .before .before .before .before .before .before .before .before .before .before .before in
+    let s = c .before .before .before .before .before .before .before .before .before .before .before .before .before .before .before .before in
     fits-then _ (now (s .args .out)) (omega (arith, s .good)) (c .before .before .before .before .before .before .before .put-all .ensures) refl (omega (arith, c .before .before .before .before .if1 .taken)) (c .before .before .put-all2 .ensures)
 
 same-length-2 : tie.Need-same-length-2
@@ -34,7 +34,7 @@ same-length-2 c = search needs
 
 returns-2 : tie.Need-returns-2
 returns-2 c =
-    let s = c .before .before .before .before .before .before .before .before .before .before .before .before .before in
+    let s = c .before .before .before .before .before .before .before .before .before .before .before .before in
     refused-then _ (now (s .args .out)) (omega (arith, s .good)) (c .before .before .before .put-all .ensures) refl (omega (arith, c .if1 .left))
 
 pub list-measured-spec : {M : Type 1} → statement M

@@ -23,7 +23,7 @@ code-of-requires : tie.Need-code-of-requires
 code-of-requires c κs = search needs
 
 put-lines-requires : tie.Need-put-lines-requires
-put-lines-requires c κs = rw (c .code-of .ensures) (c .before .before .before .before .before .before .before .before .before .before .before .before .before .before .before .pre)
+put-lines-requires c κs = rw (c .code-of .ensures) (c .before .before .before .before .before .before .before .before .before .before .before .before .before .before .pre)
 
 saturating-add-requires : tie.Need-saturating-add-requires
 saturating-add-requires c κs = search needs
@@ -33,7 +33,7 @@ same-length c = search needs
 
 returns : tie.Need-returns
 returns c =
-    let s = c .before .before .before .before .before .before .before .before .before .before .before .before .before .before .before .before .before .before .before in
+    let s = c .before .before .before .before .before .before .before .before .before .before .before .before .before .before .before .before .before .before in
     let h = c .before .before .before .before .before .before .before .before .before .put-header in
     then (omega (arith, s .good)) (h .ensures) (part (h .last .0) (c .before .before .before .before .before .before .min .ensures) (rw (c .before .before .before .before .code-of .ensures) at (c .before .before .before .put-lines .ensures)) (c .saturating-add .ensures))
 

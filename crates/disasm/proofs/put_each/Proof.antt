@@ -24,14 +24,14 @@ use Rattle.disasm.proofs.put_each.Statement.{statement}
 use Rattle.disasm.proofs.put_each.Tie as tie
 
 abbrev Inv-loop : tie.InvT-loop
-Inv-loop out₀ code opcodes types runtime intrinsic slots payload blocks flows f rfs p₀ i₀ out p i = WriteInv (viewOf code opcodes types runtime intrinsic slots payload f) (decodedBy code opcodes types f) (length code) out₀ 0 out p i
+Inv-loop out₀ code opcodes types runtime intrinsic slots payload blocks f rfs p₀ i₀ out p i = WriteInv (viewOf code opcodes types runtime intrinsic slots payload f) (decodedBy code opcodes types f) (length code) out₀ 0 out p i
 
 abbrev μ-loop : tie.MeasureT-loop
-μ-loop out₀ code opcodes types runtime intrinsic slots payload blocks flows f rfs p₀ i₀ out p i = length code - i
+μ-loop out₀ code opcodes types runtime intrinsic slots payload blocks f rfs p₀ i₀ out p i = length code - i
 
 -- from the loop's head back to the function's entry
 abbrev start : tie.At-loop Inv-loop μ-loop → tie.Start Inv-loop μ-loop
-start l = l .before .before .before .before .before .before .before .before .before .before .before .before .before
+start l = l .before .before .before .before .before .before .before .before .before .before .before .before
 
 -- what is decoded at the place that the loop stands at
 decoded-is : (c : tie.After-decode-at Inv-loop μ-loop) → let a = start (c .before .before) .args in
@@ -54,7 +54,7 @@ progress c =
     rw e (past (now (a .code)) (opcodesOf (now (a .opcodes))) (now (a .types)) (a .f .frame .«reg_file_start») (a .f .wide) (a .f .extra) (l .loop .i) (done c))
 
 loop-holds : tie.Need-loop-holds Inv-loop μ-loop
-loop-holds c = let a = c .before .before .before .before .before .before .before .before .before .before .before .before .args in write-start _ _ _ (now (a .out)) 0 (omega arith)
+loop-holds c = let a = c .before .before .before .before .before .before .before .before .before .before .before .args in write-start _ _ _ (now (a .out)) 0 (omega arith)
 
 decode-at-requires : tie.Need-decode-at-requires Inv-loop μ-loop
 decode-at-requires c κs = search needs
@@ -66,7 +66,7 @@ same-length : tie.Need-same-length Inv-loop μ-loop
 same-length c = up-to-kept (c .before .before .before .before .before .loop .inv .lines)
 
 returns : tie.Need-returns Inv-loop μ-loop
-returns c = absurd (refused-at _ _ _ (c .before .before .before .before .before .loop .inv) (c .before .before .before .decode-at .result) (decoded-is (c .before .before .before)) _ (c .enum-told .given .1) (start (c .before .before .before .before .before) .pre .1))
+returns c = absurd (refused-at _ _ _ (c .before .before .before .before .before .loop .inv) (c .before .before .before .decode-at .result) (decoded-is (c .before .before .before)) _ (c .enum-told .given .1) (start (c .before .before .before .before .before) .pre .0))
 
 enum-told-2 : tie.Need-enum-told-2 Inv-loop μ-loop
 enum-told-2 c = search needs
@@ -80,8 +80,8 @@ returns-2 c = end-at _ _ _ (c .before .before .before .before .before .loop .inv
 enum-told-3 : tie.Need-enum-told-3 Inv-loop μ-loop
 enum-told-3 c = search needs
 
-flow-in-requires : tie.Need-flow-in-requires Inv-loop μ-loop
-flow-in-requires c κs = search needs
+flow-of-requires : tie.Need-flow-of-requires Inv-loop μ-loop
+flow-of-requires c κs = search needs
 
 min-requires : tie.Need-min-requires Inv-loop μ-loop
 min-requires c κs = search needs
@@ -127,11 +127,11 @@ loop-again c =
     ap (λ (y : Decoded). y .instr .offset) (decoded-is (c .before .before .before .before .before .before .before .before .before .before .before .before .before .before .before .before))
     ∙ rw (done (c .before .before .before .before .before .before .before .before .before .before .before .before .before)) at (decode-says (now (a .code)) (opcodesOf (now (a .opcodes))) (now (a .types)) (a .f .frame .«reg_file_start») (a .f .wide) (a .f .extra) (l .loop .i)) in
     let bytes : take (x .instr .end - l .loop .i) (drop (l .loop .i) (now (a .code))) ≡ bytesOf (now (a .code)) (x .instr) = rw offset in
-    let flow : c .before .before .before .before .before .before .before .before .before .before .before .before .flow-in .result ≡ flowOf (now (a .opcodes)) (x .instr .opcode) = c .before .before .before .before .before .before .before .before .before .before .before .before .flow-in .ensures (now (a .opcodes)) (s .pre .0) in
+    let flow : c .before .before .before .before .before .before .before .before .before .before .before .before .flow-of .result ≡ flowOf (now (a .opcodes)) (x .instr .opcode) = c .before .before .before .before .before .before .before .before .before .before .before .before .flow-of .ensures in
     let first = part (l .loop .out) (c .before .before .before .before .before .before .before .before .before .before .before .min .ensures) (rw bytes at (c .before .before .before .before .before .before .before .before .put-instr .ensures)) (c .before .before .before .before .before .saturating-add .ensures) in
     done-at _ _ _ (l .loop .inv) x (decoded-is (c .before .before .before .before .before .before .before .before .before .before .before .before .before .before .before .before)) (omega (arith, s .good)) (c .before .before .before .before .before .before .before .before .before .before .before .before .before .enum-told3 .given .1) (q .0) (q .1)
     (rw (line-parts (viewOf (now (a .code)) (now (a .opcodes)) (now (a .types)) (now (a .runtime)) (now (a .intrinsic)) (now (a .slots)) (now (a .payload)) (a .f)) (flowOf (now (a .opcodes)) (x .instr .opcode)) (x .instr))
-    (then (omega (arith, s .good, up-to-kept (l .loop .inv .lines))) first (rw flow at (c .before .before .put-goes .ensures (s .pre .2)))))
+    (then (omega (arith, s .good, up-to-kept (l .loop .inv .lines))) first (rw flow at (c .before .before .put-goes .ensures (s .pre .1)))))
 
 same-length-3 : tie.Need-same-length-3 Inv-loop μ-loop
 same-length-3 c = up-to-kept (c .before .loop .inv .lines)
@@ -158,7 +158,7 @@ put-each-spec =
     same-length-2
     returns-2
     enum-told-3
-    flow-in-requires
+    flow-of-requires
     min-requires
     sub-put-instr
     part-put-instr-start

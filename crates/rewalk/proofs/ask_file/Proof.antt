@@ -7,13 +7,16 @@ use Rattle.rewalk.proofs.ask_file.Statement.{statement}
 use Rattle.rewalk.proofs.ask_file.Tie as tie
 
 abbrev Inv-loop : tie.InvT-loop
-Inv-loop bytes shows counts₀ files₀ at₀ counts files at = Unit {0}
+Inv-loop bytes shows counts₀ tries₀ files₀ at₀ counts tries files at = Unit {0}
 
 abbrev μ-loop : tie.MeasureT-loop
-μ-loop bytes shows counts₀ files₀ at₀ counts files at = length bytes - at
+μ-loop bytes shows counts₀ tries₀ files₀ at₀ counts tries files at = length bytes - at
 
 no-counts-requires : tie.Need-no-counts-requires Inv-loop μ-loop
 no-counts-requires c κs = search needs
+
+no-tries-requires : tie.Need-no-tries-requires Inv-loop μ-loop
+no-tries-requires c κs = search needs
 
 no-files-requires : tie.Need-no-files-requires Inv-loop μ-loop
 no-files-requires c κs = search needs
@@ -30,8 +33,11 @@ files-after-requires c κs = search needs
 counts-after-requires : tie.Need-counts-after-requires Inv-loop μ-loop
 counts-after-requires c κs = search needs
 
+tries-after-requires : tie.Need-tries-after-requires Inv-loop μ-loop
+tries-after-requires c κs = search needs
+
 loop-less : tie.Need-loop-less Inv-loop μ-loop
-loop-less c = omega (arith, c .before .before .item-at .ensures (c .before .before .before .loop-test .taken))
+loop-less c = omega (arith, c .before .before .before .item-at .ensures (c .before .before .before .before .loop-test .taken))
 
 loop-again : tie.Need-loop-again Inv-loop μ-loop
 loop-again c = search needs
@@ -46,11 +52,13 @@ ask-file-spec =
     Inv-loop
     μ-loop
     no-counts-requires
+    no-tries-requires
     no-files-requires
     loop-holds
     item-at-requires
     files-after-requires
     counts-after-requires
+    tries-after-requires
     loop-less
     loop-again
     returns)

@@ -23,14 +23,14 @@ use Rattle.walk.proofs.keep_all.Statement.{statement}
 use Rattle.walk.proofs.keep_all.Tie as tie
 
 abbrev Inv-loop : tie.InvT-loop
-Inv-loop code opcodes types slots payload blocks flows f heads₀ words₀ check₀ i₀ heads words check i = Keeping (sourceOf code opcodes types slots payload [] f) heads words check i
+Inv-loop code opcodes types slots payload blocks f heads₀ words₀ check₀ i₀ heads words check i = Keeping (sourceOf code opcodes types slots payload [] f) heads words check i
 
 abbrev μ-loop : tie.MeasureT-loop
-μ-loop code opcodes types slots payload blocks flows f heads₀ words₀ check₀ i₀ heads words check i = length code - i
+μ-loop code opcodes types slots payload blocks f heads₀ words₀ check₀ i₀ heads words check i = length code - i
 
 -- from the loop's head back to the function's entry, and what the call is about
 abbrev start : tie.At-loop Inv-loop μ-loop → tie.Start Inv-loop μ-loop
-start i = i .before .before .before .before .before .before .before .before .before .before
+start i = i .before .before .before .before .before .before .before .before .before
 
 abbrev source : tie.At-loop Inv-loop μ-loop → Source
 source i = let a = start i .args in sourceOf (now (a .code)) (now (a .opcodes)) (now (a .types)) (now (a .slots)) (now (a .payload)) [] (a .f)
@@ -58,11 +58,11 @@ kept c =
     let a = start i .args in
     let x = decodeAt (now (a .code)) (opcodesOf (now (a .opcodes))) (now (a .types)) (i .loop .i) (a .f .frame .«reg_file_start») (a .f .wide) (a .f .extra) .instr in
     let e = c .before .before .before .before .extent-at .ensures (a .f .frame .«reg_file_start») in
-    let g = c .before .flow-in .ensures (now (a .opcodes)) (start i .pre .6) in
+    let g = c .before .flow-of .ensures in
     kept-is (source i) (i .loop .i) x (c .keep-at .result) (ap (λ (y : Decoded). y .instr) (decoded i)) (g ∙ ap (λ (y : Extent). flowOf (now (a .opcodes)) (y .opcode)) e) (ap (λ (y : Extent). y .end - i .loop .i) e) (c .keep-at .ensures)
 
 loop-holds : tie.Need-loop-holds Inv-loop μ-loop
-loop-holds c = let p = c .before .before .before .before .before .before .before .before .before .pre in keeping-start _ (p .4) (p .2) (p .3)
+loop-holds c = let p = c .before .before .before .before .before .before .before .before .pre in keeping-start _ (p .4) (p .2) (p .3)
 
 extent-at-requires : tie.Need-extent-at-requires Inv-loop μ-loop
 extent-at-requires c κs = search needs
@@ -97,8 +97,8 @@ enum-told-2 c = search needs
 sub-size : tie.Need-sub-size Inv-loop μ-loop
 sub-size c = let i = c .before .before .before .before in omega (arith, ends c, behind (source i) (i .loop .i) (done c))
 
-flow-in-requires : tie.Need-flow-in-requires Inv-loop μ-loop
-flow-in-requires c κs = search needs
+flow-of-requires : tie.Need-flow-of-requires Inv-loop μ-loop
+flow-of-requires c κs = search needs
 
 cast-keep-at : tie.Need-cast-keep-at Inv-loop μ-loop
 cast-keep-at c = let i = c .before .before .before .before .before in omega (arith, ends (c .before), few-bytes (source i) (i .loop .i) (done (c .before)))
@@ -158,7 +158,7 @@ keep-all-spec =
     returns-2
     enum-told-2
     sub-size
-    flow-in-requires
+    flow-of-requires
     cast-keep-at
     keep-at-requires
     kept-check-requires
