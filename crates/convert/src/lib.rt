@@ -18,7 +18,9 @@ ghost use Rattle.text.specs.Put.{Put};
 ghost use Rattle.text.specs.Written.{putText};
 ghost use Rattle.text.specs.Numbers.{WrittenAs};
 ghost use Rattle.text.specs.mirror.Written.{WrittenBy};
-ghost use Rattle.tables.specs.Records.{oldSize, opcodeSize, opcodeCount};
+ghost use Rattle.tables.specs.Records.{sizeAs, oldSize, opcodeSize, opcodeCount};
+ghost use Rattle.convert.specs.Records.{joined};
+ghost use Rattle.convert.specs.mirror.Forms.{other, recordAs};
 ghost use Rattle.convert.specs.Convert.{kindByte, bit, flowBytes, newRecord, newFile, toNewCall, oldRecord, oldFile, otherFlow, checkBack, toOldCall};
 
 // What records of both forms have: name, mark, count and codes.
@@ -51,27 +53,13 @@ fn write_new(out: &mut [u8], opcodes: &[u8]) -> Written
 {
     let n = opcodes.len() / OLD_SIZE;
     if n * OPCODE_SIZE <= out.len() {
-        Written::Done(put_new(out, opcodes, n))
+        Written::Done(put_records(out, opcodes, Form::New, n))
     } else {
         Written::Refused(Refusal {
             number: refusal::SHORT_OUTPUT,
             place: 0,
         })
     }
-}
-
-// The n records one behind the other.
-fn put_new(out: &mut [u8], opcodes: &[u8], n: usize) -> usize
-    requires { ⌜ n ≡ length (now opcodes) / oldSize ⌝ }
-    ensures { λ r. ⌜ Put (now (out .entry)) 0 (newFile (now (opcodes .entry))) (now (out .exit)) r ⌝ }
-{
-    let mut at = 0;
-    let mut k = 0;
-    while k < n {
-        at = put_new_record(out, at, opcodes, k);
-        k += 1;
-    }
-    at
 }
 
 // The fields, the flow of the name, and zeros.
@@ -167,27 +155,13 @@ fn write_old(out: &mut [u8], opcodes: &[u8]) -> Written
 {
     let n = tables::opcode_count(opcodes);
     if n * OLD_SIZE <= out.len() {
-        Written::Done(put_old(out, opcodes, n))
+        Written::Done(put_records(out, opcodes, Form::Old, n))
     } else {
         Written::Refused(Refusal {
             number: refusal::SHORT_OUTPUT,
             place: 0,
         })
     }
-}
-
-// The n records one behind the other.
-fn put_old(out: &mut [u8], opcodes: &[u8], n: usize) -> usize
-    requires { ⌜ n ≡ opcodeCount (now opcodes) ⌝ }
-    ensures { λ r. ⌜ Put (now (out .entry)) 0 (oldFile (now (opcodes .entry))) (now (out .exit)) r ⌝ }
-{
-    let mut at = 0;
-    let mut k = 0;
-    while k < n {
-        at = put_old_record(out, at, opcodes, k);
-        k += 1;
-    }
-    at
 }
 
 // The fields, and zeros.
@@ -199,4 +173,30 @@ fn put_old_record(out: &mut [u8], at: usize, opcodes: &[u8], k: usize) -> usize
     let to = from + FIELDS;
     let p = text::put_bytes(out, at, &opcodes[from..to]);
     text::put_bytes(out, p, &[0; 14])
+}
+
+// Both ways.
+
+// The n records of a file in the form asked for, one behind the other.
+fn put_records(out: &mut [u8], opcodes: &[u8], to: Form, n: usize) -> usize
+    requires { ⌜ n ≡ length (now opcodes) / sizeAs (other to) ⌝ }
+    ensures { λ r. ⌜ Put (now (out .entry)) 0 (joined (recordAs to (now (opcodes .entry))) 0 n) (now (out .exit)) r ⌝ }
+{
+    let mut at = 0;
+    let mut k = 0;
+    while k < n {
+        at = put_record(out, at, opcodes, to, k);
+        k += 1;
+    }
+    at
+}
+
+fn put_record(out: &mut [u8], at: usize, opcodes: &[u8], to: Form, k: usize) -> usize
+    requires { ⌜ k < length (now opcodes) / sizeAs (other to) ⌝ }
+    ensures { λ r. ⌜ Put (now (out .entry)) at (recordAs to (now (opcodes .entry)) k) (now (out .exit)) r ⌝ }
+{
+    match to {
+        Form::New => put_new_record(out, at, opcodes, k),
+        Form::Old => put_old_record(out, at, opcodes, k),
+    }
 }

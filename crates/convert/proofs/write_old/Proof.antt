@@ -14,16 +14,17 @@ opcode-count-requires c κs = search needs
 mul-if1 : tie.Need-mul-if1
 mul-if1 c = search needs
 
-put-old-requires : tie.Need-put-old-requires
-put-old-requires c κs = search needs
+put-records-requires : tie.Need-put-records-requires
+put-records-requires c κs = search needs
 
 same-length : tie.Need-same-length
 same-length c = search needs
 
 returns : tie.Need-returns
+unfolding oldFile
 returns c =
     let a = c .before .before .before .before .before .before .before .before .args in
-    written-whole (oldFile (now (a .opcodes))) (now (a .out)) (omega (arith, c .before .before .before .before .before .before .before .before .good)) (omega (arith, old-length (now (a .opcodes)), c .before .before .before .before .if1 .taken, c .before .before .before .before .before .opcode-count .ensures)) (c .before .before .put-old .ensures)
+    written-whole (oldFile (now (a .opcodes))) (now (a .out)) (omega (arith, c .before .before .before .before .before .before .before .before .good)) (omega (arith, old-length (now (a .opcodes)), c .before .before .before .before .if1 .taken, c .before .before .before .before .before .opcode-count .ensures)) (rw (c .before .before .before .before .before .opcode-count .ensures) at (c .before .before .put-records .ensures))
 
 returns-2 : tie.Need-returns-2
 returns-2 c =
@@ -33,4 +34,4 @@ returns-2 c =
 pub write-old-spec : {M : Type 1} → statement M
 write-old-spec =
     tie.close
-    (tie.spec opcode-count-requires mul-if1 put-old-requires same-length returns returns-2)
+    (tie.spec opcode-count-requires mul-if1 put-records-requires same-length returns returns-2)
