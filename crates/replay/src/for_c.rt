@@ -6,6 +6,7 @@ use vectors::counts::judged;
 use vectors::items::Files;
 use vectors::items::behind;
 use vectors::items::file;
+use vectors::items::first;
 use vectors::said;
 
 // 13: its status, its place and its 28 numbers.
@@ -97,8 +98,8 @@ pub fn write(bytes: &[u8], files: Files, call: &[u8]) -> Outcome {
 }
 
 fn write_in(bytes: &[u8], files: Files, call: &[u8], out: &mut [u8]) -> bool {
-    let len = text::min(words::u64_at(call, 224) as usize, out.len());
-    is_written(bytes, files, call, &mut out[..len])
+    let n = words::u64_at(call, 224) as usize;
+    is_written(bytes, files, call, first(out, n))
 }
 
 fn is_written(bytes: &[u8], files: Files, call: &[u8], out: &mut [u8]) -> bool {
@@ -122,8 +123,8 @@ pub fn converted(bytes: &[u8], files: Files, call: &[u8], to: Form) -> Outcome {
 }
 
 fn converted_in(bytes: &[u8], files: Files, call: &[u8], to: Form, out: &mut [u8]) -> bool {
-    let len = text::min(words::u64_at(call, 0) as usize, out.len());
-    is_converted(bytes, files, call, to, &mut out[..len])
+    let n = words::u64_at(call, 0) as usize;
+    is_converted(bytes, files, call, to, first(out, n))
 }
 
 fn is_converted(bytes: &[u8], files: Files, call: &[u8], to: Form, out: &mut [u8]) -> bool {

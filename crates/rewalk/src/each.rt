@@ -5,6 +5,7 @@ use vectors::items::Files;
 use vectors::items::Part;
 use vectors::items::behind;
 use vectors::items::file;
+use vectors::items::first;
 use vectors::items::lent;
 
 // The answer said now, how often it is said again, and where the next run is.
@@ -146,7 +147,7 @@ fn is_walked_in(
     if buffer.len() < n || code.len() < n {
         return false;
     }
-    let marks = walks::first(buffer, n);
+    let marks = first(buffer, n);
     let walked = walks::walk_code(bytes, files, object, behind(code, code.len() - n), marks);
     answers::is_walked(said, walked, marks, n)
 }

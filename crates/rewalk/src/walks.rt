@@ -7,6 +7,7 @@ use refusal::Refusal;
 use vectors::items::Files;
 use vectors::items::behind;
 use vectors::items::file;
+use vectors::items::first;
 use walk::Walked;
 
 // In place of an object's number: no store and no pool.
@@ -82,14 +83,6 @@ fn show(bytes: &[u8], files: Files, with: bool, number: u64, walked: Walked) {
     } else {
         shown::show(number, code, walked);
     }
-}
-
-// The first n marks, or all.
-pub fn first<'a>(marks: &'a mut [u8], n: usize) -> &'a mut [u8] {
-    if n <= marks.len() {
-        return &mut marks[..n];
-    }
-    marks
 }
 
 // The length of object 0's code, 0 where it is refused.

@@ -141,6 +141,14 @@ pub fn lent<'a>(s: &'a [u8], part: Part) -> &'a [u8]
     serializer::lent(s, part.at, part.len)
 }
 
+// The first n bytes of a buffer, or all.
+pub fn first<'a>(s: &'a mut [u8], n: usize) -> &'a mut [u8] {
+    if n <= s.len() {
+        return &mut s[..n];
+    }
+    s
+}
+
 // What is behind the first n bytes of s.
 pub fn behind<'a>(s: &'a [u8], n: usize) -> &'a [u8]
     ensures { λ r. ⌜ now r ≡ take (length (now (s .entry))) (drop n (now (s .entry))) ⌝ }
