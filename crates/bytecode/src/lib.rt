@@ -1,4 +1,6 @@
 // One instruction: decoded with 01's checks, and its operands, registers and name as text.
+#![tactic(auto)]
+
 ghost use Rattle.std.specs.Prelude.{◌≡◌, ◌++◌, cond, eqb};
 ghost use Rattle.laws.specs.Ascii.{ascii};
 ghost use Rattle.text.specs.Put.{Put};
@@ -66,7 +68,7 @@ pub fn render_operand(
     op: Operand,
 ) -> usize
     ensures { Put out.old at (operand_text
-        (record { types = types.entry.now; runtime = runtime.now; intrinsic = intrinsic.now }) frame params op) out.new result }
+        (record { types = types.now; runtime = runtime.now; intrinsic = intrinsic.now }) frame params op) out.new result }
 {
     match op {
         Operand::Nothing => text::saturating_add(at, 0),

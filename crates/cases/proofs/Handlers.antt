@@ -1,7 +1,7 @@
 -- 02, Wish 5, by computing: walks with handler records over the sample's table and a Throw, 0c. Assumes nothing.
 use Prim.Native.Nat.{ℕ}
 use mathlib.Core.Path.{◌≡◌, refl}
-use mathlib.Core.List.{List, [], ◌∷◌, ◌++◌, map}
+use mathlib.Core.List.{List, [], ◌∷◌, ◌++◌}
 use lib.ListN.{replicate}
 use Rattle.laws.specs.Scan.{first_from, within}
 use Rattle.words.specs.Le.{le_at}

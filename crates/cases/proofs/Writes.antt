@@ -2,8 +2,8 @@
 use Prim.Native.Nat.{ℕ}
 use mathlib.Core.Path.{◌≡◌, refl}
 use mathlib.Core.List.{List, [], ◌∷◌}
-use lib.IntN.{ℤ, pos, negsuc}
-use lib.ListN.{length, replicate}
+use lib.IntN.{pos, negsuc}
+use lib.ListN.{replicate}
 use Rattle.laws.specs.Scan.{first_from, within}
 use Rattle.words.specs.Le.{le_at, le_bytes}
 use Rattle.words.specs.Signed.{modulo, wrap32, signed}

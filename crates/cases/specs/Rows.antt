@@ -16,7 +16,7 @@ use Rattle.jumps.specs.declared.TargetAnswer.TheVariants as target-answer
 use Rattle.function.specs.Pool.{lent_pool, lent_elem}
 use Rattle.jumps.specs.Jumps.{target_call}
 use Rattle.walk.specs.declared.Walked.{Walked}
-use Rattle.walk.specs.declared.Walked.TheVariants as Walked-as
+use Rattle.walk.specs.declared.Walked.TheVariants as walked-as
 use Rattle.walk.specs.Walk.{walk_lent}
 use Rattle.sample.specs.Sample.{opcodes, types, layout}
 use Rattle.flow.specs.Opcodes.{opcodes_of}
@@ -88,7 +88,7 @@ rows =
     ∷ line Outcome.Done (ascii "           @    0 : 0a 05 00 fa 02     CallRuntime [5], r0-r1\n")
     ∷ decoded (refused_at 15 4)
     ∷ target (target-answer.At 18446744073709551613)
-    ∷ walked (Walked-as.Leaves 1 0, 1 ∷ 0 ∷ 7 ∷ 7 ∷ [])
-    ∷ walked (Walked-as.Leaves 2 4, 1 ∷ 0 ∷ 0 ∷ 0 ∷ 1 ∷ 7 ∷ 7 ∷ [])
-    ∷ walked (Walked-as.Closed, 1 ∷ 0 ∷ 1 ∷ 7 ∷ 7 ∷ [])
+    ∷ walked (walked-as.Leaves 1 0, 1 ∷ 0 ∷ 7 ∷ 7 ∷ [])
+    ∷ walked (walked-as.Leaves 2 4, 1 ∷ 0 ∷ 0 ∷ 0 ∷ 1 ∷ 7 ∷ 7 ∷ [])
+    ∷ walked (walked-as.Closed, 1 ∷ 0 ∷ 1 ∷ 7 ∷ 7 ∷ [])
     ∷ []

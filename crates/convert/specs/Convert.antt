@@ -1,5 +1,5 @@
 -- 02, Wish 6: "Add conversion from 64-byte records, filled from document 01's names, unused bytes 0, and back."
-use Rattle.std.specs.Prelude.{ℕ, ◌+◌, ◌*◌, ◌/◌, Bool, cond, not, ◌&&◌, List, [], ◌∷◌, ◌++◌, eqb, length, take, drop, replicate}
+use Rattle.std.specs.Prelude.{ℕ, ◌*◌, ◌/◌, Bool, cond, not, ◌&&◌, List, [], ◌∷◌, ◌++◌, eqb, length, take, drop, replicate}
 use Rattle.refusal.specs.declared.Check.{Check}
 use Rattle.refusal.specs.Check.{first_refusal, first_bad, guarded_on}
 use Rattle.text.specs.declared.Written.{Written}

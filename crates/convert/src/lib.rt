@@ -1,4 +1,6 @@
 // Opcode files with their flows, made of 01's by name, and back (02, Wish 6).
+#![tactic(auto)]
+
 mod names;
 
 ghost use Rattle.std.specs.Prelude.{◌≡◌, ◌++◌, ◌+◌, ◌*◌, ◌/◌, ◌<◌, ◌≤◌, length, replicate};

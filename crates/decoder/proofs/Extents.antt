@@ -10,7 +10,7 @@ use lib.IntN.{ℤ}
 use lib.ListN.{length}
 use Rattle.laws.specs.Scan.{first_from}
 use Rattle.laws.proofs.Scan.{first_is}
-use Rattle.laws.proofs.Tests.{by_test, and_left}
+use Rattle.laws.proofs.Tests.{and_left}
 use Rattle.tables.specs.Records.{width}
 use Rattle.operand.specs.Operand.{is_list}
 use Rattle.operand.specs.mirror.Step.{is_counted}

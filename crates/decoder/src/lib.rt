@@ -1,4 +1,6 @@
 // One instruction at a place of the code.
+#![tactic(auto)]
+
 ghost use Rattle.std.specs.Prelude.{◌≡◌, ◌<◌, ◌≤◌, ℤ, length};
 ghost use Rattle.flow.specs.Opcodes.{opcodes_of};
 ghost use Rattle.prefix.specs.declared.Head.TheVariants as head;
@@ -11,13 +13,13 @@ use prefix::Head;
 use refusal::Refusal;
 
 // One of an instruction's eight operands.
-#[derive(Drop)]
+#[derive(Clone, Copy)]
 pub struct OperandRecord {
     pub operand: Operand,
 }
 
 // An instruction: its operands are the first count of the eight.
-#[derive(Drop)]
+#[derive(Clone, Copy)]
 pub struct Instr {
     pub offset: usize,
     pub opcode: u8,
@@ -28,7 +30,7 @@ pub struct Instr {
 }
 
 // How decoding at a place ended.
-#[derive(Drop)]
+#[derive(Clone, Copy)]
 pub enum Outcome {
     End,
     Refused(Refusal),
@@ -36,14 +38,14 @@ pub enum Outcome {
 }
 
 // The answer; the instruction is blank unless the outcome is Done.
-#[derive(Drop)]
+#[derive(Clone, Copy)]
 pub struct Decoded {
     pub outcome: Outcome,
     pub instr: Instr,
 }
 
 // An instruction without its operands: what a pass needs that only goes from one to the next. All 0 unless the outcome is Done.
-#[derive(Drop)]
+#[derive(Clone, Copy)]
 pub struct Extent {
     pub outcome: Outcome,
     pub opcode: u8,
@@ -52,7 +54,7 @@ pub struct Extent {
 }
 
 // Operands as far as they are read, for contracts: before is the type code of the last one.
-#[derive(Drop)]
+#[derive(Clone, Copy)]
 struct Operands {
     pub outcome: Outcome,
     pub at: usize,

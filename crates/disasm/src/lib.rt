@@ -1,4 +1,5 @@
 // The listing of a function: its header counts and its instruction lines.
+#![tactic(auto)]
 
 ghost use Rattle.std.specs.Prelude.{◌≡◌};
 ghost use Rattle.refusal.specs.declared.Check.TheVariants.{Ok};
@@ -31,7 +32,7 @@ use text::Written;
 const HEADER_ROOM: usize = 250;
 
 // What the first pass over the instructions answers: the checks of 11 to 16, and room for the header and all lines.
-#[derive(Drop)]
+#[derive(Clone, Copy)]
 pub struct Pass {
     pub check: Check,
     pub room: usize,

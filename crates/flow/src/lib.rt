@@ -1,8 +1,10 @@
 // What an instruction does with the flow of control, as its opcode's record says (02, Wish 6); by name only the two that return (Wish 5).
+#![tactic(auto)]
+
 ghost use Rattle.std.specs.Prelude.{◌≡◌};
 ghost use Rattle.flow.specs.Flow.{flow_kind, flow_of, is_return};
 
-#[derive(Drop)]
+#[derive(Clone, Copy)]
 pub enum Kind {
     // Goes to the next instruction.
     On,
@@ -18,7 +20,7 @@ pub enum Kind {
     Switch,
 }
 
-#[derive(Drop)]
+#[derive(Clone, Copy)]
 pub struct Flow {
     pub kind: Kind,
     // A jump whose distance comes from the pool.

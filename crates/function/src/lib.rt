@@ -1,5 +1,7 @@
 // A function, as its listing, its jumps and its walks see it: the lent files and their checks, its pool, and the checks that are met as
 // its code is decoded. What takes checked files checks nothing, and searches as the Rust does, which on checked files finds the same.
+#![tactic(auto)]
+
 ghost use Rattle.std.specs.Prelude.{◌≡◌};
 ghost use Rattle.function.specs.Files.{files_of, lent_files, check_files, check_pool_object, check_lent};
 ghost use Rattle.function.specs.Pool.{pool_by};
@@ -14,7 +16,7 @@ use tables::{Frame, Layout};
 use targets::{Pool, PoolSlots, Table};
 
 // The object whose pool lent code uses, if one is lent. Without one no store is lent either.
-#[derive(Drop)]
+#[derive(Clone, Copy)]
 pub enum PoolObject {
     Nothing,
     Object(usize),
@@ -22,7 +24,7 @@ pub enum PoolObject {
 
 // What is found once of a function: the tagged size, its pool, the frame, the parameter count, the prefix opcodes. Lent code has no header:
 // its parameter count is 0, and no walk or target reads it.
-#[derive(Drop)]
+#[derive(Clone, Copy)]
 pub struct Function {
     pub ts: u8,
     pub pool: Pool,
@@ -128,6 +130,7 @@ pub fn lent_pool(objects: &[u8], slots: &[u8], shape: Layout, object: PoolObject
 }
 
 // The pool that a slot refers to.
+#[tactic(auto, unfolding(crate::specs::Pool::pool_by))]
 fn pool_by(objects: &[u8], found: SlotAt) -> Pool
     ensures { result ≡ pool_by objects.now found }
 {

@@ -9,7 +9,7 @@ use native.Mathlib.Nat.{le_refl}
 use native.Mathlib.Omega.{arith}
 use lib.ListN.{length, get_or, set, length-set}
 use lib.Seq.{get_or-set_same, get_or-set_other}
-use Rattle.laws.proofs.Tests.{under?, same?}
+use Rattle.laws.proofs.Tests.{same?}
 use Rattle.words.specs.Le.{le_at}
 use Rattle.flow.specs.Flow.{is_return}
 use Rattle.handlers.specs.Handlers.{handler_count, handler_offset, is_held, handler_among}

@@ -1,6 +1,6 @@
 -- Handler records. 02, Wish 5: "Lend handler records of 12 bytes: start, end, handler offset, each 4 bytes."
 use Rattle.std.specs.Prelude.{ℕ, zero, suc, ◌+◌, ◌*◌, ◌/◌, ◌%◌, Bool, cond, not, ◌&&◌, List, eqb, leb, ltb, length}
-use Rattle.std.proofs.Math.Option.{Option, none, some}
+use mathlib.Core.Option.{Option, none, some}
 use Rattle.words.specs.Le.{le_at}
 use Rattle.refusal.specs.declared.Check.{Check}
 use Rattle.refusal.specs.Check.{first_refusal, refuse_unless, first_bad}

@@ -1,4 +1,5 @@
 // Handler records: checks 24 and 25, and a table with the handler of each place of a code, made once for a search.
+#![tactic(auto)]
 
 ghost use Rattle.std.specs.Prelude.{◌≡◌, ◌≤◌, ◌<◌, ◌+◌, ◌*◌, ◌/◌, max, cond, not, length, get_or};
 ghost use Rattle.refusal.specs.Check.{first_bad};

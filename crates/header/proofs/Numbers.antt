@@ -9,7 +9,6 @@ use Rattle.serializer.proofs.Numbers.{smi_of}
 use Rattle.header.specs.Numbers.{header_numbers, smi_slot_numbers, num_field_numbers}
 use Rattle.header.specs.declared.HeaderAnswer.{HeaderAnswer}
 use Rattle.header.specs.declared.HeaderAnswer.TheVariants as header-answer
-use Rattle.header.specs.declared.Num.{Num}
 use Rattle.header.specs.declared.Num.TheVariants as num
 use Rattle.header.specs.declared.SmiAnswer.{SmiAnswer}
 use Rattle.header.specs.declared.SmiAnswer.TheVariants as smi-answer

@@ -4,7 +4,7 @@
 use Rattle.std.specs.Prelude.{ℕ, ◌/◌, ◌%◌, ◌^◌, Bool, false, cond, List, leb, ℤ, pos, negsuc, nat_abs}
 use Rattle.std.specs.Int.Signed.{quot_z}
 use Rattle.std.specs.Int.{w32}
-use Rattle.std.proofs.Common.{to_z}
+use mir.Val.{to_z}
 use Rattle.words.specs.Le.{le_at}
 use Rattle.refusal.specs.Check.{refusal_at}
 use Rattle.store.specs.declared.Object.{Object}

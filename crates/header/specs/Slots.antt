@@ -3,7 +3,7 @@
 use Rattle.std.specs.Prelude.{ℕ, ◌*◌, ◌/◌, ◌^◌, Bool, true, false, cond, List, eqb, leb}
 use Rattle.std.specs.Int.Signed.{shr_z}
 use Rattle.std.specs.Int.{w32}
-use Rattle.std.proofs.Common.{to_z}
+use mir.Val.{to_z}
 use Rattle.words.specs.Le.{le_at}
 use Rattle.words.specs.Signed.{modulo}
 use Rattle.serializer.specs.declared.Smi.{Smi}

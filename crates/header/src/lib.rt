@@ -1,6 +1,8 @@
 // The header of a BytecodeArray, and numbers in tagged slots (disasm.rs: the first part of render_sfi, smi_slot, num_field). The
 // calls on a lent store check it first. What they use takes an object and its slots, checks nothing, and searches as the Rust does,
 // which on a checked store finds the same.
+#![tactic(auto)]
+
 ghost use Rattle.std.specs.Prelude.{◌≡◌, false};
 ghost use Rattle.serializer.specs.mirror.Search.{raw_searched};
 ghost use Rattle.serializer.specs.Length.{smi_field};
@@ -18,7 +20,7 @@ use tables::{Field, Layout};
 
 // Answers.
 
-#[derive(Drop)]
+#[derive(Clone, Copy)]
 pub struct Header {
     pub length: u32,
     pub parameter_count: i32,
@@ -31,14 +33,14 @@ pub struct Header {
     pub code_len: usize,
 }
 
-#[derive(Drop)]
+#[derive(Clone, Copy)]
 pub enum HeaderAnswer {
     At(Header),
     Refused(Refusal),
 }
 
 // A number in a slot.
-#[derive(Drop)]
+#[derive(Clone, Copy)]
 pub enum Num {
     Is(u32),
     Nothing,
@@ -46,13 +48,13 @@ pub enum Num {
 
 // Answers of the calls on a lent store.
 
-#[derive(Drop)]
+#[derive(Clone, Copy)]
 pub enum SmiAnswer {
     Smi(Smi),
     Refused(Refusal),
 }
 
-#[derive(Drop)]
+#[derive(Clone, Copy)]
 pub enum NumAnswer {
     Num(Num),
     Refused(Refusal),

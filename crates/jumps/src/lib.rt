@@ -1,4 +1,6 @@
 // The target of a jump, and the table of a switch and its entries, at a place of lent code, with 01's checks of all that is lent.
+#![tactic(auto)]
+
 ghost use Rattle.std.specs.Prelude.{◌≡◌};
 ghost use Rattle.flow.specs.Opcodes.{opcodes_of};
 ghost use Rattle.targets.specs.Targets.{found};
@@ -13,7 +15,7 @@ use refusal::{Check, Refusal};
 use targets::{Entries, Entry, Pool, Table, Target};
 
 // Where a jump goes. End is the code's end; Nothing is no target.
-#[derive(Drop)]
+#[derive(Clone, Copy)]
 pub enum TargetAnswer {
     At(u64),
     Nothing,
@@ -22,7 +24,7 @@ pub enum TargetAnswer {
 }
 
 // The entries of a switch. End is the code's end; Nothing is no table.
-#[derive(Drop)]
+#[derive(Clone, Copy)]
 pub enum TableAnswer {
     At(Entries),
     Nothing,
@@ -32,7 +34,7 @@ pub enum TableAnswer {
 
 // An entry of a switch. Skipped is an element that is no small integer; Beyond is no entry of the table; End is the code's end; Nothing
 // is no table.
-#[derive(Drop)]
+#[derive(Clone, Copy)]
 pub enum EntryAnswer {
     Shown { case: i32, target: u64 },
     Skipped,
@@ -134,6 +136,7 @@ pub fn jump_entry(
 }
 
 // The target of what was decoded.
+#[tactic(auto, unfolding(crate::specs::Jumps::target_of))]
 fn target_of(
     opcodes: &[u8],
     slots: &[u8],
@@ -157,6 +160,7 @@ fn target_of(
 }
 
 // The table of what was decoded at a place.
+#[tactic(auto, unfolding(crate::specs::Jumps::table_of))]
 fn table_of(opcodes: &[u8], pool: Pool, d: Decoded, at: usize) -> TableAnswer
     ensures { result ≡ table_of (opcodes_of opcodes.now) (found pool) d at }
 {

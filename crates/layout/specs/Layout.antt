@@ -1,7 +1,7 @@
 -- The layout. 01: "Layout, 80 bytes: twenty 4-byte values".
 use Rattle.std.specs.Prelude.{ℕ, ◌*◌, ◌/◌, ◌%◌, List, [], ◌∷◌, Bool, true, cond, not, ◌||◌, leb, eqb, get_or, ℤ}
 use Rattle.std.specs.Int.{w32}
-use Rattle.std.proofs.Common.{to_z}
+use mir.Val.{to_z}
 use Rattle.words.specs.Le.{le_at}
 use Rattle.refusal.specs.declared.Check.{Check}
 use Rattle.refusal.specs.Check.{first_bad}

@@ -1,4 +1,6 @@
 // The layout file: row 5, and its values. Every function is total: a byte past the end is 0.
+#![tactic(auto)]
+
 ghost use Rattle.std.specs.Prelude.{◌≡◌, ◌+◌, ◌-◌, ◌*◌, ◌/◌, ◌<◌, ◌||◌, eqb, leb, length};
 ghost use Rattle.layout.specs.Layout.{check_layout, value, signed_value, range_of, in_range, field_of, slot_for, osr_field, param_base_of, slot_unit, frame_of, layout_of};
 
@@ -8,20 +10,20 @@ use refusal::Check;
 pub const LAYOUT_SIZE: usize = 80;
 
 // A header field's offset.
-#[derive(Drop)]
+#[derive(Clone, Copy)]
 pub enum Field {
     At(u32),
     Absent,
 }
 
-#[derive(Drop)]
+#[derive(Clone, Copy)]
 pub enum ParamBase {
     At(i32),
     Absent,
 }
 
 // The registers' numbers.
-#[derive(Drop)]
+#[derive(Clone, Copy)]
 pub struct Frame {
     pub reg_file_start: i32,
     pub context: i32,
@@ -30,7 +32,7 @@ pub struct Frame {
     pub param_base: ParamBase,
 }
 
-#[derive(Drop)]
+#[derive(Clone, Copy)]
 pub struct Layout {
     pub tagged_size: u8,
     pub unit: u8,

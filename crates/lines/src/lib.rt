@@ -1,4 +1,6 @@
 // One line of the listing, written into a lent part of the listing buffer.
+#![tactic(auto)]
+
 ghost use Rattle.std.specs.Prelude.{◌≡◌, [], cond, false, min};
 ghost use Rattle.laws.specs.Ascii.{ascii};
 ghost use Rattle.text.specs.Put.{Put};

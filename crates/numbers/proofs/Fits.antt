@@ -1,4 +1,4 @@
--- What an instruction's fields may hold, for law `Told-back` (Inverse.antt): each is in the range of its type.
+-- What an instruction's fields may hold, for law `told_back` (Inverse.antt): each is in the range of its type.
 use Prim.Native.Nat.{ℕ, ◌^◌, ◌<◌}
 use mathlib.Core.Path.{◌≡◌}
 use lib.ListN.{length}

@@ -1,8 +1,8 @@
--- The way back: the instruction that 28 numbers tell. Laws of proofs/Inverse.antt: the numbers that are told of an instruction tell it (`Told-back`),
+-- The way back: the instruction that 28 numbers tell. Laws of proofs/Inverse.antt: the numbers that are told of an instruction tell it (`told_back`),
 -- and three numbers that tell an operand are those that are told of it (`told_again`).
 use Rattle.std.specs.Prelude.{ℕ, zero, suc, ◌+◌, ◌-◌, ◌*◌, ◌%◌, ◌^◌, Bool, cond, ◌&&◌, ◌||◌, List, [], ◌∷◌, eqb, leb, ltb, get_or}
 use Rattle.std.specs.Int.{w64}
-use Rattle.std.proofs.Common.{to_z}
+use mir.Val.{to_z}
 use Rattle.operand.specs.declared.Operand.{Operand}
 use Rattle.operand.specs.declared.Operand.TheVariants.{Nothing, Reg, RegList, Imm, Idx, Flag8, Flag16, RuntimeId, IntrinsicId, Raw}
 use Rattle.decoder.specs.declared.OperandRecord.{OperandRecord}

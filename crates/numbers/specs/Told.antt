@@ -1,7 +1,7 @@
 -- A number as C is told it.
 use Rattle.std.specs.Prelude.{ℕ, ℤ}
 use Rattle.std.specs.Int.{w64}
-use Rattle.std.proofs.Common.{of_z}
+use mir.Val.{of_z}
 
 -- a value in 64 bits: a negative one in two's complement
 abbrev pub told64 : ℤ → ℕ

@@ -1,8 +1,9 @@
 // An instruction as 28 numbers, for C, and the instruction that 28 numbers tell.
+#![tactic(auto)]
 
 ghost use Rattle.std.specs.Prelude.{◌≡◌, ◌^◌, ◌<◌, true, ◌&&◌, eqb, ltb};
 ghost use Rattle.std.specs.Int.{w64};
-ghost use Rattle.std.proofs.Common.{to_z};
+ghost use mir.Val.{to_z};
 ghost use Rattle.operand.specs.declared.Operand.TheVariants as operand;
 ghost use Rattle.numbers.specs.Told.{told64};
 ghost use Rattle.numbers.specs.Back.{is_i32, only, told_operand, told_at, told_from, told_scale, opcode_known, told_instr};

@@ -1,11 +1,13 @@
 // Where an instruction begins: the end of the code, a prefix, an opcode.
+#![tactic(auto)]
+
 ghost use Rattle.std.specs.Prelude.{◌≡◌, ◌<◌, length};
 ghost use Rattle.prefix.specs.Head.{op_at, behind, head_at};
 
 use refusal::Refusal;
 
 // The opcode at a place, behind any prefix.
-#[derive(Drop)]
+#[derive(Clone, Copy)]
 pub enum Head {
     End,
     Refused(Refusal),

@@ -1,4 +1,5 @@
 // What the programs print: a refusal's line, the listing of object 0, and the answer of the walk check on it.
+#![tactic(auto)]
 
 ghost use Rattle.std.specs.Prelude.{◌≡◌, length};
 ghost use Rattle.text.specs.Put.{Put};

@@ -1,5 +1,7 @@
-// A slot reader: a struct that keeps the lent slot records and a cursor, over plain functions. The functions over the struct are
-// proved by hand; the work is in `read_at` and `next_at`, and a caller of `read_step` needs no proof by hand.
+// A slot reader: a struct that keeps the lent slot records and a cursor, over plain functions. The work is in `read_at` and
+// `next_at`; `read_step` is a step of a reader that is not kept.
+#![tactic(auto)]
+
 ghost use Rattle.std.specs.Prelude.{◌≡◌};
 ghost use Rattle.store.specs.Records.{slot_count};
 ghost use Rattle.reader.specs.Reading.{read_at, next_at};
@@ -8,20 +10,20 @@ ghost use Rattle.reader.specs.Numbers.{read_numbers};
 use store::Slot;
 
 // The lent slot records, and the number of the record that is read next.
-#[derive(Drop)]
+#[derive(Clone, Copy)]
 pub struct SlotReader<'a> {
     pub slots: &'a [u8],
     pub at: usize,
 }
 
-#[derive(Drop)]
+#[derive(Clone, Copy)]
 pub enum Read {
     Found(Slot),
     End,
 }
 
 // What was read, and the cursor behind it.
-#[derive(Drop)]
+#[derive(Clone, Copy)]
 pub struct Stepped {
     pub read: Read,
     pub at: usize,

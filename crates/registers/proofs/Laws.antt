@@ -1,7 +1,7 @@
 -- Laws of the largest register, for the code's loops. Assumes nothing.
 use Prim.Native.Nat.{ℕ, zero, suc, max, ◌+◌, ◌<◌, ◌≤◌, ◌^◌}
 use mathlib.Core.Path.{◌≡◌, refl, sym, ap, ◌∙◌}
-use mathlib.Core.Bool.{Bool, true, false}
+use mathlib.Core.Bool.{Bool, false}
 use mathlib.Core.List.{List, [], ◌∷◌}
 use native.Mathlib.Omega.{arith}
 use lib.IntN.{ℤ, pos, negsuc}
@@ -11,27 +11,17 @@ use native.Mathlib.Numerals.{add-one}
 use mir.Syntax.{w32, w64}
 use mir.Facts.{to_z-of_z}
 use mir.Val.{to_z, of_z, SFits}
-use types.Run.{OneOf, miss}
-use denote.Enum.Declared.{tag_of}
-use Rattle.words.specs.Signed.{modulo, negative, list_last}
+use Rattle.words.specs.Signed.{modulo, negative}
 use Rattle.words.proofs.Signs.{modulo_fits}
-use Rattle.operand.specs.declared.Operand.{Operand}
-use Rattle.operand.specs.declared.Operand.TheVariants.{Nothing, Reg, RegList, Imm, Idx, Flag8, Flag16, RuntimeId, IntrinsicId, Raw}
 use Rattle.decoder.specs.declared.OperandRecord.{OperandRecord}
 use Rattle.decoder.specs.declared.Instr.{Instr}
-use Rattle.decoder.specs.Decode.{blank}
 use Rattle.registers.specs.declared.Largest.{Largest}
-use Rattle.registers.specs.Registers.{larger, with_register, list_end, with_operand, with_operands, with_instr, with_instrs}
-use Rattle.operand.specs.contracts.Operand as operand_type
+use Rattle.registers.specs.Registers.{larger, with_register, with_operand, with_operands, with_instr, with_instrs}
 use Rattle.registers.specs.declared.Largest.TheVariants as largest
 
 -- the sign of a register, as the code tests it on its 64 bits
 pub sign : {b : Bool} (z y : ℤ) → SFits w32 z → SFits w64 y → y ≡ to_z w32 (of_z w32 z) → b ≡ negative (to_z w64 (of_z w64 y)) → b ≡ negative z
 sign z y f g e h = h ∙ ap negative (to_z-of_z {w = w64} {z = y} g ∙ e ∙ to_z-of_z f)
-
-pub below : (best : Largest) (z : ℤ) → true ≡ negative z → best ≡ with_register best z
-below best (pos n) h = cc
-below best (negsuc n) h = refl
 
 -- a register that is not below 0 counts with its bits
 pub counts : (best : Largest) (z : ℤ) (n : ℕ) → SFits w32 z → false ≡ negative z → n ≡ modulo (2 ^ 32) (to_z w32 (of_z w32 z)) → larger best n ≡ with_register best z
@@ -49,26 +39,6 @@ module _ (best : Largest) (z : ℤ) (n : ℕ) (e : larger best n ≡ with_regist
     pub stays : n ≤ m → largest.Register m ≡ with_register best z
     stays l = let q : m ≡ max m n = omega arith in ap largest.Register q ∙ ap (λ (b : Largest). larger b n) (sym told) ∙ e
 
-pub end_first : (first : ℤ) (count : ℕ) → count ≡ 0 → first ≡ list_end first count
-end_first first count h = rw h
-
-pub end_last : (first : ℤ) (count : ℕ) → (count ≡ 0 → ⊥) → list_last first count ≡ list_end first count
-end_last first zero h = absurd (h refl)
-end_last first (suc n) h = refl
-
--- an operand that is no register
-pub no_register : (best : Largest) (x : Operand) → OneOf (0 ∷ 3 ∷ 4 ∷ 5 ∷ 6 ∷ 7 ∷ 8 ∷ 9 ∷ []) (tag_of operand_type.the_type x) → best ≡ with_operand best x
-no_register best Nothing h = refl
-no_register best (Reg i) h = absurd (miss (0 ∷ 3 ∷ 4 ∷ 5 ∷ 6 ∷ 7 ∷ 8 ∷ 9 ∷ []) 1 tt h)
-no_register best (RegList f n) h = absurd (miss (0 ∷ 3 ∷ 4 ∷ 5 ∷ 6 ∷ 7 ∷ 8 ∷ 9 ∷ []) 2 tt h)
-no_register best (Imm v) h = refl
-no_register best (Idx v) h = refl
-no_register best (Flag8 v) h = refl
-no_register best (Flag16 v) h = refl
-no_register best (RuntimeId v) h = refl
-no_register best (IntrinsicId v) h = refl
-no_register best (Raw t v) h = refl
-
 -- one more operand
 pub operands_more : (best b : Largest) (xs : List OperandRecord) (i : ℕ) (z : OperandRecord) → i < length xs → b ≡ with_operands best (take i xs)
     → with_operand b (get_or xs i z).operand ≡ with_operands best (take (i + 1) xs)
@@ -85,10 +55,10 @@ unfolding with_operands
 operands_none best xs = refl
 
 -- one more instruction
-pub instrs_more : (best : Largest) (xs : List Instr) (i : ℕ) → i < length xs → with_instrs best (take (i + 1) xs) ≡ with_instr (with_instrs best (take i xs)) (get_or xs i blank)
-instrs_more best xs i h = rw add-one (go best xs i h)
+pub instrs_more : (best : Largest) (xs : List Instr) (i : ℕ) (z : Instr) → i < length xs → with_instrs best (take (i + 1) xs) ≡ with_instr (with_instrs best (take i xs)) (get_or xs i z)
+instrs_more best xs i z h = rw add-one (go best xs i h)
   where
-    go : (b : Largest) (l : List Instr) (j : ℕ) → j < length l → with_instrs b (take (suc j) l) ≡ with_instr (with_instrs b (take j l)) (get_or l j blank)
+    go : (b : Largest) (l : List Instr) (j : ℕ) → j < length l → with_instrs b (take (suc j) l) ≡ with_instr (with_instrs b (take j l)) (get_or l j z)
     go b [] j k = absurd (not-suc-le-zero k)
     go b (x ∷ l) zero k = refl
     go b (x ∷ l) (suc j) k = go (with_instr b x) l j (le_of_suc-le-suc k)

@@ -1,4 +1,6 @@
 // The largest register of a lent run of instructions.
+#![tactic(auto)]
+
 ghost use Rattle.std.specs.Prelude.{◌≡◌, min};
 ghost use Rattle.registers.specs.Registers.{with_register, with_operand, with_instr, max_register};
 ghost use Rattle.registers.specs.Numbers.{largest_numbers};
@@ -7,7 +9,7 @@ use decoder::Instr;
 use operand::Operand;
 
 // The largest register, where there is one.
-#[derive(Drop)]
+#[derive(Clone, Copy)]
 pub enum Largest {
     Register(u32),
     Nothing,

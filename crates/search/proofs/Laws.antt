@@ -23,7 +23,6 @@ use Rattle.graph.proofs.Answers.{found}
 use Rattle.targets.specs.Targets.{smi_of, target_from}
 use Rattle.search.specs.declared.Searched.{Searched}
 use Rattle.search.specs.mirror.Kept.{size_of, here_of, count_of, shown, entries_from, target_steps, table_steps, on_steps, catch_steps, places, kept_graph, off_heads, Goes, Below, finding_as, IsFound}
-use Rattle.targets.specs.declared.Target.TheVariants as target
 
 -- ---- tests on lists
 module _ {A : Type 0} (p : A → Bool) where

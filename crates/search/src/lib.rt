@@ -1,5 +1,6 @@
 // A breadth-first search over a graph that lies in lent numbers (specs/mirror/Kept.antt): level after level, each instruction expanded once.
 // No opcode is known here: who has decoded the instructions keeps of each a head, and a word where it jumps.
+#![tactic(auto)]
 
 ghost use Rattle.std.specs.Prelude.{◌≡◌, ◌≤◌, ◌<◌, ◌+◌, ◌/◌, ◌%◌, true, false, length, get_or, replicate};
 ghost use Rattle.graph.specs.Lists.{any};
@@ -14,21 +15,21 @@ use serializer::Elem;
 use targets::{Pool, Target};
 
 // Closed, or the steps of the shortest walk that leaves and the offset it leaves from.
-#[derive(Drop)]
+#[derive(Clone, Copy)]
 pub enum Searched {
     Closed,
     Leaves(usize, usize),
 }
 
 // Where the elements of a table are read: the tagged size and the pool.
-#[derive(Drop)]
+#[derive(Clone, Copy)]
 pub struct Elements {
     pub ts: u8,
     pub pool: Pool,
 }
 
 // An offset, where one was found.
-#[derive(Drop)]
+#[derive(Clone, Copy)]
 enum Found {
     At(usize),
     Nothing,

@@ -1,11 +1,9 @@
 pub mod Parts
 pub mod Bound
-pub mod Cases
 pub mod Down
 pub mod Windows
 pub mod Point
 pub mod Searched
 pub mod Checked
 pub mod Inside
-pub mod Passed
 pub mod Numbers

@@ -1,6 +1,8 @@
 // Readers of the store (serializer.rs): small integers, slots, fields in raw runs, elements and lengths of arrays. `ts` is the
 // tagged size; 0, which no layout has, finds nothing. The calls on a lent store check it first. What they use takes an object's
 // slots, `count` from number `first` on, checks nothing, and searches as the Rust does, which on a checked store finds the same.
+#![tactic(auto)]
+
 mod blocks;
 mod elements;
 mod integers;
@@ -24,35 +26,35 @@ pub use slots::slot_at_unchecked;
 use store::SlotValue;
 
 // A small integer.
-#[derive(Drop)]
+#[derive(Clone, Copy)]
 pub enum Smi {
     Value(i64),
     Nothing,
 }
 
 // The value of a slot.
-#[derive(Drop)]
+#[derive(Clone, Copy)]
 pub enum SlotAt {
     At(SlotValue),
     Nothing,
 }
 
 // Where in the payload a field starts.
-#[derive(Drop)]
+#[derive(Clone, Copy)]
 pub enum RawAt {
     At(usize),
     Nothing,
 }
 
 // Bytes of the payload.
-#[derive(Drop)]
+#[derive(Clone, Copy)]
 pub struct Span {
     pub at: usize,
     pub len: usize,
 }
 
 // An element of an array.
-#[derive(Drop)]
+#[derive(Clone, Copy)]
 pub enum Elem {
     Object(u32),
     Root,
@@ -64,14 +66,14 @@ pub enum Elem {
 
 // Answers of the calls on a lent store.
 
-#[derive(Drop)]
+#[derive(Clone, Copy)]
 pub enum SlotAnswer {
     At(SlotValue),
     Nothing,
     Refused(Refusal),
 }
 
-#[derive(Drop)]
+#[derive(Clone, Copy)]
 pub enum RawAnswer {
     At(usize),
     Nothing,
@@ -79,25 +81,25 @@ pub enum RawAnswer {
 }
 
 // The answer of raw_at, and the part of the payload that it tells of.
-#[derive(Drop)]
+#[derive(Clone, Copy)]
 pub struct RawPart<'a> {
     pub answer: RawAnswer,
     pub part: &'a [u8],
 }
 
-#[derive(Drop)]
+#[derive(Clone, Copy)]
 pub enum LenAnswer {
     Len(u64),
     Refused(Refusal),
 }
 
-#[derive(Drop)]
+#[derive(Clone, Copy)]
 pub enum ElemAnswer {
     Elem(Elem),
     Refused(Refusal),
 }
 
-#[derive(Drop)]
+#[derive(Clone, Copy)]
 pub enum OffAnswer {
     Off(u64),
     Refused(Refusal),
@@ -125,8 +127,7 @@ pub fn slot_at(
 }
 
 // Where in the payload the len bytes from byte off of the object on are, nothing or a refusal, and the part of the payload that holds
-// them; it is empty where none does. A caller in whose body a `RawPart` stands is proved by hand: `raw_run_at` answers the one
-// half, `raw_part_at` the other.
+// them; it is empty where none does. `raw_run_at` answers the one half, `raw_part_at` the other.
 pub fn raw_at<'a>(
     objects: &[u8],
     slots: &[u8],
@@ -311,14 +312,14 @@ pub fn lent<'a>(s: &'a [u8], at: usize, n: usize) -> &'a [u8]
 // Elements.
 
 // What a slot says of an element: Below, that it is passed over.
-#[derive(Drop)]
+#[derive(Clone, Copy)]
 enum ElemLook {
     Found(Elem),
     Below,
 }
 
 // The indices, from `from` on and below `to`, for which a walk downward passes a block of slots.
-#[derive(Drop)]
+#[derive(Clone, Copy)]
 struct Window {
     from: u32,
     to: u32,
@@ -327,7 +328,7 @@ struct Window {
 // Offsets.
 
 // The index of the last plain raw slot.
-#[derive(Drop)]
+#[derive(Clone, Copy)]
 enum Tail {
     At(u32),
     Nothing,

@@ -1,6 +1,6 @@
 -- The steps of an instruction. 01, "Walks": "From an instruction ending before e, by plain name: .."; and 02's Wish 5, the step to a handler.
 use Rattle.std.specs.Prelude.{ℕ, zero, suc, ◌+◌, Bool, cond, List, [], ◌∷◌, ◌++◌, map, eqb, ℤ}
-use Rattle.std.proofs.Math.Option.{Option, none, some}
+use mathlib.Core.Option.{Option, none, some}
 use Rattle.graph.specs.Graph.{Graph, Step}
 use Rattle.graph.specs.Graph.Step.{to_offset, no_target}
 use Rattle.decoder.specs.declared.Instr.{Instr}

@@ -1,4 +1,5 @@
 // What the walk check keeps of an instruction, so that its search need not decode: where it goes, in two numbers (search/specs/mirror/Kept.antt).
+#![tactic(auto)]
 
 ghost use Rattle.std.specs.Prelude.{◌≡◌};
 ghost use Rattle.targets.specs.Targets.{found, jump_target};
@@ -12,7 +13,7 @@ use flow::{Flow, Kind};
 use targets::{Pool, Table, Target};
 
 // The head and the word of an instruction, and whether number 16 refuses its table.
-#[derive(Drop)]
+#[derive(Clone, Copy)]
 pub struct Kept {
     pub head: u32,
     pub word: u32,

@@ -1,8 +1,8 @@
 -- Fields of names, many bytes at a time. Assumes nothing.
-use Rattle.std.proofs.Common.{◌≡◌, ℕ, zero, suc, ◌+◌, ◌-◌, ◌/◌, ◌%◌, ◌<◌, ◌≤◌, max, Bool, true, false, cond, not, ◌&&◌, eqb, List, [], length, get_or, take, drop, sym, refl, ap, ◌∙◌, ⊎_elim, zero-add, arith, length-drop, length-take-le, get_or-drop, get_or-take, lt-ltb, eq-eqb, ne_eqb, eqb-true, le-leb}
+use Rattle.std.proofs.Common.{◌≡◌, ℕ, zero, suc, ◌+◌, ◌-◌, ◌/◌, ◌%◌, ◌<◌, ◌≤◌, max, Bool, true, false, cond, not, eqb, List, [], length, get_or, take, drop, sym, refl, ap, ◌∙◌, ⊎_elim, zero-add, arith, length-drop, length-take-le, get_or-drop, get_or-take, lt-ltb, eq-eqb, ne_eqb, eqb-true, le-leb}
 use borrow.Author.Tests.{lt-leb, not-true, not-false}
 use Rattle.laws.specs.Scan.{first_from, within}
-use Rattle.laws.proofs.Scan.{first-here, first_next, first_end, first-within, first_holds, first_none, first_is, first_along, first_past, first_more, within_below, within_above}
+use Rattle.laws.proofs.Scan.{first-here, first_next, first_end, first-within, first_holds, first_none, first_is, first_along, within_below, within_above}
 use Rattle.laws.proofs.Tests.{clash, under?, same?, or_either, eqb_along}
 use Rattle.words.specs.Le.{le_at}
 use Rattle.words.proofs.Le.{Bytes, le_at_none, le_at_past}

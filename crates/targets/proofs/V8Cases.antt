@@ -1,7 +1,7 @@
 -- Where V8's targets are not ours, and a prefixed switch: 01's sample, computed. Assumes nothing.
 use Rattle.std.proofs.Common.{◌≡◌, ℕ, true, false, List, [], ◌∷◌, get_or, ℤ, pos, negsuc, refl}
 use Rattle.words.specs.Signed.{modulo, wrap32}
-use Rattle.operand.specs.declared.Operand.TheVariants.{Nothing, Idx, Imm}
+use Rattle.operand.specs.declared.Operand.TheVariants.{Idx, Imm}
 use Rattle.decoder.specs.declared.Instr.{Instr}
 use Rattle.decoder.specs.Decode.{instr_of}
 use Rattle.decoder.specs.V8.{Bytecodes, type_info, is_scalable, is_unsigned, unscaled_size, prefix_size, get_operand}
@@ -13,8 +13,8 @@ use Rattle.targets.specs.declared.Table.TheVariants as table
 use Rattle.targets.specs.declared.Entry.TheVariants as entry
 use Rattle.targets.specs.Targets.{operand_of, here, index_of, number_of, distance_by, jump_target, sized_by, table_by, jump_table, entry_at}
 use Rattle.targets.specs.V8.{Jump, ConstantPool, get_jump_target_offset, get_jump_table_target_offsets}
-use Rattle.targets.specs.V8.Jump.{jump_loop, jump_immediate, jump_constant}
-use Rattle.targets.specs.V8.Switch.{switch_on_generator_state, switch_on_smi_no_feedback}
+use Rattle.targets.specs.V8.Jump.{jump_loop, jump_immediate}
+use Rattle.targets.specs.V8.Switch.{switch_on_smi_no_feedback}
 use Rattle.targets.specs.Form.{jump_flow, switch_flow}
 
 -- 05 Jump, 07 JumpLoop, 09 SwitchOnSmiNoFeedback of the sample

@@ -1,4 +1,6 @@
 // Where an instruction goes: jump targets and switch entries. Nothing here checks its input; every function is total.
+#![tactic(auto)]
+
 ghost use Rattle.std.specs.Prelude.{◌≡◌, ◌+◌};
 ghost use Rattle.targets.specs.declared.Number.TheVariants as number;
 ghost use Rattle.targets.specs.Targets.{found, operand_of, here, index_of, number_of, target_by, jump_target, is_switch, base_of, sized_by, table_by, jump_table, entry_at};
@@ -11,47 +13,47 @@ use operand::Operand;
 use serializer::Elem;
 
 // The slots of the constant pool.
-#[derive(Drop)]
+#[derive(Clone, Copy)]
 pub struct PoolSlots {
     pub first: u32,
     pub count: u32,
 }
 
-#[derive(Drop)]
+#[derive(Clone, Copy)]
 pub enum Pool {
     At(PoolSlots),
     Nothing,
 }
 
 // An index operand.
-#[derive(Drop)]
+#[derive(Clone, Copy)]
 pub enum Index {
     Is(u32),
     Nothing,
 }
 
 // A number, where there is one.
-#[derive(Drop)]
+#[derive(Clone, Copy)]
 pub enum Number {
     Is(i64),
     Nothing,
 }
 
-#[derive(Drop)]
+#[derive(Clone, Copy)]
 pub enum Target {
     At(u64),
     Nothing,
 }
 
 // The entries of a switch: the pool elements from start on, with case numbers from base on.
-#[derive(Drop)]
+#[derive(Clone, Copy)]
 pub struct Entries {
     pub start: u32,
     pub count: u16,
     pub base: i32,
 }
 
-#[derive(Drop)]
+#[derive(Clone, Copy)]
 pub enum Table {
     Nothing,
     At(Entries),
@@ -59,7 +61,7 @@ pub enum Table {
     Refused,
 }
 
-#[derive(Drop)]
+#[derive(Clone, Copy)]
 pub enum Entry {
     Shown { case: i32, target: u64 },
     Skipped,
@@ -83,6 +85,7 @@ pub fn pool_elem(slots: &[u8], payload: &[u8], ts: u8, pool: Pool, n: u64) -> El
     pool_elem_in(slots, payload, &none, ts, pool, n)
 }
 
+#[tactic(auto, unfolding(crate::specs::mirror::Search::pool_searched))]
 pub fn pool_elem_in(
     slots: &[u8],
     payload: &[u8],
@@ -118,6 +121,7 @@ pub fn jump_target_unchecked(
 }
 
 // Each step is taken apart or answers no target.
+#[tactic(auto, unfolding(crate::specs::Targets::jump_target, crate::specs::Targets::distance_by, crate::specs::Targets::index_of, crate::specs::mirror::Search::pool_searched))]
 pub fn jump_target_in(
     slots: &[u8],
     payload: &[u8],
@@ -156,6 +160,7 @@ pub fn jump_target_in(
 }
 
 // The table of a switch, with a prefix or without.
+#[tactic(auto, unfolding(crate::specs::Targets::jump_table))]
 pub fn jump_table_unchecked(pool: Pool, flow: Flow, instr: Instr) -> Table
     ensures { result ≡ jump_table (found pool) flow instr }
 {
@@ -187,6 +192,7 @@ pub fn jump_entry_unchecked(
     jump_entry_in(slots, payload, &none, ts, pool, at, e, k)
 }
 
+#[tactic(auto, unfolding(crate::specs::Targets::entry_at))]
 pub fn jump_entry_in(
     slots: &[u8],
     payload: &[u8],
@@ -222,6 +228,7 @@ pub fn here(instr: Instr) -> u64
 }
 
 // Operand k of an instruction.
+#[tactic(auto, unfolding(crate::specs::Targets::operand_of))]
 pub fn operand_of(instr: Instr, k: u8) -> Operand
     ensures { result ≡ operand_of instr k }
 {
@@ -237,6 +244,7 @@ pub fn operand_of(instr: Instr, k: u8) -> Operand
 }
 
 // The operand n behind operand k.
+#[tactic(auto, unfolding(crate::specs::Targets::operand_of))]
 fn operand_after(instr: Instr, k: u8, n: u8) -> Operand
     ensures { result ≡ operand_of instr (k + n) }
 {
@@ -249,6 +257,7 @@ fn operand_after(instr: Instr, k: u8, n: u8) -> Operand
     operand_of(instr, k + n)
 }
 
+#[tactic(auto, unfolding(crate::specs::Targets::index_of))]
 fn index_of(op: Operand) -> Index
     ensures { result ≡ index_of op }
 {
@@ -258,6 +267,7 @@ fn index_of(op: Operand) -> Index
     Index::Is(v)
 }
 
+#[tactic(auto, unfolding(crate::specs::Targets::number_of))]
 fn number_of(op: Operand) -> Number
     ensures { result ≡ number_of op }
 {
@@ -316,6 +326,7 @@ fn base_of(based: bool, op: Operand) -> Number
     if based { number_of(op) } else { Number::Is(0) }
 }
 
+#[tactic(auto, unfolding(crate::specs::Targets::table_by))]
 fn table_by(pool: Pool, start: Index, size: Number, base: Number) -> Table
     ensures { result ≡ table_by (found pool) start size base }
 {
@@ -332,6 +343,7 @@ fn table_by(pool: Pool, start: Index, size: Number, base: Number) -> Table
 }
 
 // The table of n entries, or number 16.
+#[tactic(auto, unfolding(crate::specs::Targets::sized_by))]
 fn sized(start: u32, n: i64, base: Number) -> Table
     ensures { result ≡ sized_by start n base }
 {

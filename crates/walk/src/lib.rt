@@ -1,4 +1,5 @@
 // The walk check: one pass decodes the listed instructions, makes the checks and keeps where each goes; a search over what is kept finds the answer.
+#![tactic(auto)]
 
 ghost use Rattle.std.specs.Prelude.{◌≡◌, ◌≤◌, cond, ◌||◌, eqb, leb, ltb, length, []};
 ghost use Rattle.refusal.specs.declared.Check.TheVariants.{Ok};
@@ -24,7 +25,7 @@ use steps::Kept;
 use store::Object;
 
 // The answer to a walk check: closed, or the steps of the shortest walk that leaves and the offset it leaves from, or a refusal.
-#[derive(Drop)]
+#[derive(Clone, Copy)]
 pub enum Walked {
     Closed,
     Leaves(usize, usize),

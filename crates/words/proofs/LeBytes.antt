@@ -1,5 +1,5 @@
 -- Little-endian bytes written and read, over the width. Assumes nothing.
-use Rattle.std.proofs.Common.{◌≡◌, ℕ, zero, suc, ◌+◌, ◌-◌, ◌*◌, ◌/◌, ◌%◌, ◌^◌, ◌<◌, ◌≤◌, min, List, [], ◌∷◌, ◌++◌, length, get_or, take, drop, sym, refl, ap, ◌∙◌, add_assoc, add-suc, mod-lt, mod-eq_of_lt, suc-add, pow-suc, mul_right_comm, add-one, arith, drop-cons, get_or-append-add}
+use Rattle.std.proofs.Common.{◌≡◌, ℕ, zero, suc, ◌+◌, ◌-◌, ◌*◌, ◌/◌, ◌%◌, ◌^◌, ◌<◌, ◌≤◌, min, List, [], ◌∷◌, ◌++◌, length, get_or, take, drop, sym, refl, ap, ◌∙◌, mod-lt, mod-eq_of_lt, pow-suc, mul_right_comm, arith, drop-cons, get_or-append-add}
 use native.Mathlib.Nat.{div-add-mod, mul-add-mod_self_left, one-le-pow}
 use Rattle.words.specs.Le.{le_at, le_bytes}
 use Rattle.words.proofs.Le.{Bytes}

@@ -1,5 +1,5 @@
 -- The bytes of an instruction. 02, Wish 2: "table, scale, opcode and operands in, bytes out". V8: BytecodeArrayWriter::EmitBytecode.
-use Rattle.std.specs.Prelude.{ℕ, ◌^◌, Bool, true, false, cond, ◌&&◌, List, [], ◌∷◌, ◌++◌, eqb, ℤ, ◌-ℤ◌}
+use Rattle.std.specs.Prelude.{ℕ, ◌^◌, Bool, false, cond, ◌&&◌, List, [], ◌∷◌, ◌++◌, eqb, ℤ, ◌-ℤ◌}
 use Rattle.words.specs.Le.{le_bytes}
 use Rattle.words.specs.Signed.{modulo}
 use Rattle.tables.specs.Records.{width}

@@ -16,7 +16,6 @@ use Rattle.operand.specs.declared.Operand.{Operand}
 use Rattle.decoder.specs.declared.OperandRecord.{OperandRecord}
 use Rattle.decoder.specs.declared.Instr.{Instr}
 use Rattle.decoder.specs.declared.Outcome.{Outcome}
-use Rattle.decoder.specs.declared.Decoded.{Decoded}
 use Rattle.decoder.specs.Decode.{operand_types, instr_of}
 use Rattle.decoder.specs.Listed.{decodes}
 use Rattle.writer.specs.Bytes.{stored_of, count_of, instr_bytes}

@@ -1,4 +1,6 @@
 // An instruction written: scale, opcode and operands in, bytes out. It is the way back of crate bytecode's `decode`.
+#![tactic(auto)]
+
 ghost use Rattle.std.specs.Prelude.{◌≡◌, true, false, cond, ◌&&◌, ◌%◌, ◌^◌, ◌≤◌, min, leb, ◌-ℤ◌};
 ghost use Rattle.words.specs.Le.{le_bytes};
 ghost use Rattle.words.specs.Signed.{modulo};

@@ -6,7 +6,7 @@
 --     Grown q k M' q' k' P the queue has grown, by entries of which P holds, and every p with P p is now in it
 --     Lowest g q lo hi f   f is the lowest entry in lo .. hi that exits, or none if none does
 use Rattle.std.specs.Prelude.{ℕ, ◌+◌, ◌≤◌, ◌<◌, ◌≡◌, true, false, cond, List, [], ◌∷◌, leb, get_or, length}
-use Rattle.std.proofs.Math.Option.{Option, none, some}
+use mathlib.Core.Option.{Option, none, some}
 use Rattle.std.proofs.Math.ListN.{get_elem?}
 use Rattle.graph.specs.Graph.{Graph, Step, Succ, exits}
 

@@ -3,9 +3,9 @@
 -- where no instruction starts, if that is lower. On the way it holds record numbers, each one more: of places, and of blocks of 256 places that a
 -- record holds whole, so that a record costs its blocks and at most two of them place by place.
 use Rattle.std.specs.Prelude.{ℕ, zero, suc, ◌+◌, ◌/◌, ◌≤◌, ◌<◌, min, max, ◌≡◌, ◌⊎◌, Bool, cond, ◌&&◌, List, eqb, leb, ltb, length, get_or}
-use Rattle.std.proofs.Math.Option.{Option, none, some}
+use mathlib.Core.Option.{Option, none, some}
 use Rattle.flow.specs.Flow.{is_return}
-use Rattle.handlers.specs.Handlers.{handler_size, handler_count, handler_offset, is_held, handler_at}
+use Rattle.handlers.specs.Handlers.{handler_offset, is_held, handler_at}
 
 -- ---- words
 abbrev pub handler_word : Option ℕ → ℕ

@@ -5,7 +5,7 @@
 -- the table's first element. "No target" is a place where nothing starts. A third table has one more than the offset of the handler that an instruction
 -- may go to, 0 where there is none; it may be empty.
 use Rattle.std.specs.Prelude.{ℕ, zero, suc, ◌+◌, ◌-◌, ◌/◌, ◌%◌, ◌≤◌, ◌<◌, min, ◌≡◌, Bool, true, cond, List, [], ◌∷◌, ◌++◌, eqb, get_or, length}
-use Rattle.std.proofs.Math.Option.{Option, none, some}
+use mathlib.Core.Option.{Option, none, some}
 use Rattle.serializer.specs.declared.Elem.{Elem}
 use Rattle.graph.specs.Lists.{any}
 use Rattle.graph.specs.Graph.{Graph, Step, Finding, is_to, finding, mark_list}

@@ -1,4 +1,4 @@
--- Laws `Kept-same` (proofs/Same.antt): what is kept of an instruction does the same as its steps; `keeps_found` (proofs/Keeps.antt): what is found
+-- Laws `kept_same` (proofs/Same.antt): what is kept of an instruction does the same as its steps; `keeps_found` (proofs/Keeps.antt): what is found
 -- of the numbers that keep a code is found of its walks. No contract of a call cites it.
 -- The head, the word and the refusal that an instruction of so many bytes is kept as, by its kind: heads and words are those of
 -- search/specs/mirror/Kept.antt.

@@ -1,0 +1,6 @@
+use native.Mathlib.Omega.{arith}
+use Rattle.text.proofs.Put.{then}
+use Rattle.bytecode.proofs.put_intrinsic.Goals as goal
+
+pub returns : goal.returns
+returns c = let h = c.well_formed in then (omega (arith, h)) (then (omega (arith, h)) c.put_bytes-p.ensures c.put_intrinsic_name-p.ensures) c.put_byte.ensures

@@ -1,0 +1,13 @@
+use mathlib.Core.Path.{refl, ap}
+use Rattle.search.specs.mirror.Kept.{shown}
+use Rattle.search.proofs.Laws.{grown_one, grown_nothing, below_one}
+use Rattle.search.proofs.push_entry.Goals as goal
+
+pub push-requires : goal.push-requires
+push-requires c = let s = c in (s.requires.0, below_one _ _ (ap shown c.in-At.is) refl s.requires.1)
+
+pub returns-in-At : goal.returns-in-At
+returns-in-At c = grown_one _ _ (ap shown c.in-At.is) refl c.push.ensures
+
+pub returns-in-Nothing : goal.returns-in-Nothing
+returns-in-Nothing c = let s = c in grown_nothing _ (ap shown c.in-Nothing.is) s.requires.0

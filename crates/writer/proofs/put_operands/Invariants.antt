@@ -1,0 +1,18 @@
+use Prim.Native.Nat.{◌-◌, ◌≤◌, min}
+use mathlib.Core.Path.{◌≡◌}
+use lib.ListN.{length, drop}
+use Rattle.text.proofs.PutUpTo.{PutUpTo}
+use Rattle.tables.specs.Records.{operand_count}
+use Rattle.flow.specs.Opcodes.{opcodes_of}
+use Rattle.decoder.specs.Decode.{codes_from}
+use Rattle.writer.specs.Write.{given}
+use Rattle.writer.proofs.Loops.{bytes_from}
+use Rattle.writer.proofs.put_operands.Given as goal
+
+abbrev pub invariant-loop-k : goal.invariant-loop-k
+invariant-loop-k l =
+    (l.n ≡ min (operand_count l.opcodes l.instr.opcode) 8) × (l.k ≤ l.n) × (l.j ≤ l.instr.count) × (l.instr.count ≤ 8) × (length l.instr.operands ≡ 8)
+    × PutUpTo l.initial.out l.at (bytes_from l.types l.instr.scale l.start 0 (codes_from (opcodes_of l.opcodes) l.instr.opcode 0 l.n) (given l.instr)) (bytes_from l.types l.instr.scale l.start l.before (codes_from (opcodes_of l.opcodes) l.instr.opcode l.k (l.n - l.k)) (drop l.j (given l.instr))) l.out l.p
+
+abbrev pub decreases-loop-k : goal.decreases-loop-k
+decreases-loop-k l = l.n - l.k
