@@ -1,5 +1,7 @@
 // The programs' input and output: the eight record files are read, and the answer is printed. What is printed for eight files, and handler records beside
 // them, is the contract of `answer`. No contract can say what is read or written.
+#![tactic(auto)]
+
 ghost use Rattle.std.specs.Prelude.{◌≡◌};
 ghost use Rattle.function.specs.Files.{files_of};
 ghost use Rattle.walk.specs.Walk.{given_of};
@@ -7,10 +9,10 @@ ghost use Rattle.program.specs.Printed.{Printed};
 ghost use Rattle.files.specs.PrintedBy.{printed_by};
 
 use inputs::Loaded;
-use libc::{STDERR_FILENO, STDOUT_FILENO};
+use std::rt::{Env, Files};
 
 // Which answer is printed.
-#[derive(Drop)]
+#[derive(Clone, Copy)]
 pub enum Program {
     List,
     Walk,
@@ -18,57 +20,64 @@ pub enum Program {
 
 // The whole program, on its arguments: files in the order of document 01, or none for those of the usual names in the current folder. In front of
 // them the walk program takes handler records: --handlers and a file.
-pub fn run(what: Program) {
-    let count = text::min(os::arg_count(), 255);
-    run_on(what, 1, count as u8);
+pub fn run(rt: &(impl Files + Env + Print + Eprint), what: Program) {
+    let count = text::min(inputs::argument_count(rt), 255);
+    run_on(rt, what, 1, count as u8);
 }
 
 // The same on the arguments from number from on, below to.
-pub fn run_on(what: Program, from: u8, to: u8) {
-    if takes_handlers(what, from, to) {
-        run_files(what, from as u16 + 2, to as u16, from as u16 + 1);
+pub fn run_on(rt: &(impl Files + Env + Print + Eprint), what: Program, from: u8, to: u8) {
+    if takes_handlers(rt, what, from, to) {
+        run_files(rt, what, from as u16 + 2, to as u16, from as u16 + 1);
     } else {
-        run_files(what, from as u16, to as u16, 0);
+        run_files(rt, what, from as u16, to as u16, 0);
     }
 }
 
 // Whether the first of these arguments is the walk program's option.
-fn takes_handlers(what: Program, from: u8, to: u8) -> bool {
+fn takes_handlers(rt: &impl Env, what: Program, from: u8, to: u8) -> bool {
     match what {
         Program::List => false,
-        Program::Walk => from < to && inputs::is_argument(from as usize, b"--handlers"),
+        Program::Walk => from < to && inputs::is_argument(rt, from as usize, b"--handlers"),
     }
 }
 
 // The program on the files from argument first on, below to; with the handler records of argument number handlers, or with none where that is 0.
-fn run_files(what: Program, first: u16, to: u16, handlers: u16) {
+fn run_files(
+    rt: &(impl Files + Env + Print + Eprint),
+    what: Program,
+    first: u16,
+    to: u16,
+    handlers: u16,
+) {
     if to < first {
-        usage(what);
+        usage(rt, what);
     } else if to - first == 8 {
-        run_by(what, first, handlers);
+        run_by(rt, what, first, handlers);
     } else if to == first {
-        run_by(what, 0, handlers);
+        run_by(rt, what, 0, handlers);
     } else {
-        usage(what);
+        usage(rt, what);
     }
 }
 
 // The same, where first is 0 for the usual names. A file's limit is 65,536 bytes; it has room for one more, in which a longer file shows.
-fn run_by(what: Program, first: u16, handlers: u16) {
+fn run_by(rt: &(impl Files + Env + Print + Eprint), what: Program, first: u16, handlers: u16) {
     let mut room = [0u8; 589833];
-    let opcodes = load(true, first, 0, b"opcodes.bin", &mut room);
-    let types = load(opcodes.good, first, 1, b"types.bin", &mut room);
-    let runtime = load(types.good, first, 2, b"runtime.bin", &mut room);
-    let intrinsic = load(runtime.good, first, 3, b"intrinsic.bin", &mut room);
-    let layout = load(intrinsic.good, first, 4, b"layout.bin", &mut room);
-    let objects = load(layout.good, first, 5, b"objects.bin", &mut room);
-    let slots = load(objects.good, first, 6, b"slots.bin", &mut room);
-    let payload = load(slots.good, first, 7, b"payload.bin", &mut room);
-    let records = load_given(payload.good, handlers, &mut room);
+    let opcodes = load(rt, true, first, 0, b"opcodes.bin", &mut room);
+    let types = load(rt, opcodes.good, first, 1, b"types.bin", &mut room);
+    let runtime = load(rt, types.good, first, 2, b"runtime.bin", &mut room);
+    let intrinsic = load(rt, runtime.good, first, 3, b"intrinsic.bin", &mut room);
+    let layout = load(rt, intrinsic.good, first, 4, b"layout.bin", &mut room);
+    let objects = load(rt, layout.good, first, 5, b"objects.bin", &mut room);
+    let slots = load(rt, objects.good, first, 6, b"slots.bin", &mut room);
+    let payload = load(rt, slots.good, first, 7, b"payload.bin", &mut room);
+    let records = load_given(rt, payload.good, handlers, &mut room);
     if !records.good {
         return;
     }
     print(
+        rt,
         what,
         file(&room, 0, opcodes.size),
         file(&room, 1, types.size),
@@ -87,23 +96,21 @@ fn file<'a>(room: &'a [u8; 589833], i: u8, size: usize) -> &'a [u8] {
     serializer::lent(room, i as usize * 65537, size)
 }
 
-fn usage(what: Program) {
-    io::write_all(STDERR_FILENO, b"usage: ");
-    put_name(what);
-    io::write_all(
-        STDERR_FILENO,
-        b" [opcodes types runtime intrinsic layout objects slots payload]\n",
-    );
+fn usage(rt: &impl Eprint, what: Program) {
+    let name = name_of(what);
+    let files = "[opcodes types runtime intrinsic layout objects slots payload]";
+    let _ = eprintln!(rt; "usage: {name} {files}");
 }
 
-fn put_name(what: Program) -> bool {
+fn name_of(what: Program) -> &'static str {
     match what {
-        Program::List => io::write_all(STDERR_FILENO, b"jscd_list"),
-        Program::Walk => io::write_all(STDERR_FILENO, b"jscd_walk [--handlers FILE]"),
+        Program::List => "jscd_list",
+        Program::Walk => "jscd_walk [--handlers FILE]",
     }
 }
 
 fn print(
+    rt: &(impl Print + Eprint),
     what: Program,
     opcodes: &[u8],
     types: &[u8],
@@ -120,8 +127,8 @@ fn print(
         what, &mut out, opcodes, types, runtime, intrinsic, layout, objects, slots, payload,
         handlers,
     );
-    if !io::write_all(STDOUT_FILENO, &out[..n]) {
-        os::fail(b"standard output");
+    if let Err(error) = rt.write_all(&out[..n]) {
+        inputs::fail(rt, b"standard output", error);
     }
 }
 
@@ -154,16 +161,28 @@ fn answer(
 }
 
 // Reads file i of the eight, by its argument or by its usual name, where those before it were read.
-fn load(so_far: bool, first: u16, i: u8, name: &[u8], room: &mut [u8; 589833]) -> Loaded {
+fn load(
+    rt: &(impl Files + Env + Eprint),
+    so_far: bool,
+    first: u16,
+    i: u8,
+    name: &[u8],
+    room: &mut [u8; 589833],
+) -> Loaded {
     if so_far {
-        load_at(first, i, name, room)
+        load_at(rt, first, i, name, room)
     } else {
         inputs::unread()
     }
 }
 
 // Reads the handler records, argument number i; none where that is 0.
-fn load_given(so_far: bool, i: u16, room: &mut [u8; 589833]) -> Loaded {
+fn load_given(
+    rt: &(impl Files + Env + Eprint),
+    so_far: bool,
+    i: u16,
+    room: &mut [u8; 589833],
+) -> Loaded {
     if !so_far {
         return inputs::unread();
     }
@@ -173,29 +192,41 @@ fn load_given(so_far: bool, i: u16, room: &mut [u8; 589833]) -> Loaded {
             size: 0,
         };
     }
-    load_records(i, room)
+    load_records(rt, i, room)
 }
 
-fn load_records(i: u16, room: &mut [u8]) -> Loaded {
+fn load_records(rt: &(impl Files + Env + Eprint), i: u16, room: &mut [u8]) -> Loaded {
     if room.len() < 589833 {
         return inputs::unread();
     }
-    inputs::load_argument(i as usize, &mut room[524296..589833])
+    inputs::load_argument(rt, i as usize, &mut room[524296..589833])
 }
 
-fn load_at(first: u16, i: u8, name: &[u8], room: &mut [u8]) -> Loaded {
+fn load_at(
+    rt: &(impl Files + Env + Eprint),
+    first: u16,
+    i: u8,
+    name: &[u8],
+    room: &mut [u8],
+) -> Loaded {
     let at = i as usize * 65537;
     let end = at + 65537;
     if room.len() < end {
         return inputs::unread();
     }
-    load_by(first, i, name, &mut room[at..end])
+    load_by(rt, first, i, name, &mut room[at..end])
 }
 
-fn load_by(first: u16, i: u8, name: &[u8], buffer: &mut [u8]) -> Loaded {
+fn load_by(
+    rt: &(impl Files + Env + Eprint),
+    first: u16,
+    i: u8,
+    name: &[u8],
+    buffer: &mut [u8],
+) -> Loaded {
     if first == 0 {
-        inputs::load_file(name, buffer)
+        inputs::load_file(rt, name, buffer)
     } else {
-        inputs::load_argument(first as usize + i as usize, buffer)
+        inputs::load_argument(rt, first as usize + i as usize, buffer)
     }
 }

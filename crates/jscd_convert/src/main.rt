@@ -1,4 +1,6 @@
 // Prints an opcode file with the other form of records.
-fn main() {
-    convert_files::run();
+#![tactic(auto)]
+
+fn main(rt: HostRuntime) {
+    convert_files::run(&rt);
 }

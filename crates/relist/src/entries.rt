@@ -88,7 +88,7 @@ pub fn jump_entry(bytes: &[u8], files: Files, call: &[u8]) -> bool {
 }
 
 // How far the recorded entries are read, how many there were, and whether all were the same.
-#[derive(Drop)]
+#[derive(Clone, Copy)]
 struct Seen {
     at: usize,
     shown: u64,

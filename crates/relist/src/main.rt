@@ -1,4 +1,6 @@
 // Replays recorded vectors as the program `replay` does: whole listings, headers, numbers in slots, targets and entries.
+#![tactic(auto)]
+
 mod entries;
 mod fields;
 mod for_c;
@@ -9,36 +11,52 @@ use vectors::counts::{Counts, Outcome, counted, judged, no_counts, numbered, wit
 use vectors::items::{Files, Item, Part, What, files_after, item_at, kind_of, lent, no_files};
 use vectors::lines::{Total, both, print_counts, print_total, print_wrong, read};
 
-fn main() {
-    let named = relist(b"named.vec", true);
-    let rows = relist(b"rows.vec", false);
-    let list = relist(b"list.vec", false);
-    let jump = relist(b"jump.vec", false);
-    let entry = relist(b"entry.vec", false);
-    let headers = both(relist(b"header.vec", false), relist(b"layout.vec", false));
-    let v8 = both(relist(b"v8list.vec", false), relist(b"caches.vec", false));
+fn main(rt: HostRuntime) {
+    let named = relist(&rt, b"named.vec", true);
+    let rows = relist(&rt, b"rows.vec", false);
+    let list = relist(&rt, b"list.vec", false);
+    let jump = relist(&rt, b"jump.vec", false);
+    let entry = relist(&rt, b"entry.vec", false);
+    let headers = both(
+        relist(&rt, b"header.vec", false),
+        relist(&rt, b"layout.vec", false),
+    );
+    let v8 = both(
+        relist(&rt, b"v8list.vec", false),
+        relist(&rt, b"caches.vec", false),
+    );
     let lists = both(both(named, rows), both(list, v8));
-    print_total(both(lists, both(both(jump, entry), headers)));
-    print_wrong(relist(b"wrong.vec", false));
+    print_total(&rt, both(lists, both(both(jump, entry), headers)));
+    print_wrong(&rt, relist(&rt, b"wrong.vec", false));
 }
 
 // A file, in a buffer that is longer than any of them; its listings are printed, or not.
-fn relist(name: &[u8], shows: bool) -> Total {
+fn relist(rt: &(impl std::rt::Files + Print + Eprint), name: &[u8], shows: bool) -> Total {
     let mut buffer = [0u8; 1048576];
-    relist_in(name, shows, &mut buffer)
+    relist_in(rt, name, shows, &mut buffer)
 }
 
-fn relist_in(name: &[u8], shows: bool, buffer: &mut [u8; 1048576]) -> Total {
-    relist_with(name, shows, buffer)
+fn relist_in(
+    rt: &(impl std::rt::Files + Print + Eprint),
+    name: &[u8],
+    shows: bool,
+    buffer: &mut [u8; 1048576],
+) -> Total {
+    relist_with(rt, name, shows, buffer)
 }
 
-fn relist_with(name: &[u8], shows: bool, buffer: &mut [u8]) -> Total {
-    let len = read(name, buffer);
+fn relist_with(
+    rt: &(impl std::rt::Files + Print + Eprint),
+    name: &[u8],
+    shows: bool,
+    buffer: &mut [u8],
+) -> Total {
+    let len = read(rt, name, buffer);
     let whole = Part { at: 0, len };
     if shows {
-        shown::show_file(lent(buffer, whole));
+        shown::show_file(rt, lent(buffer, whole));
     }
-    print_counts(name, ask_file(lent(buffer, whole)))
+    print_counts(rt, name, ask_file(lent(buffer, whole)))
 }
 
 fn ask_file(bytes: &[u8]) -> Counts {

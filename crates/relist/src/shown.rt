@@ -1,39 +1,37 @@
 // Prints the listings of a vector file: what the listing program prints for the same files.
 use crate::listings;
-use libc::STDOUT_FILENO;
 use vectors::items::{Files, Part, files_after, item_at, lent, no_files};
 
-pub fn show_file(bytes: &[u8]) {
+pub fn show_file(rt: &impl Print, bytes: &[u8]) {
     let mut files = no_files();
     let mut at = 0;
     while at < bytes.len() {
         let item = item_at(bytes, at);
         files = files_after(bytes, files, item);
-        show_item(bytes, files, item.kind);
+        show_item(rt, bytes, files, item.kind);
         at = item.next;
     }
 }
 
 // A call of function 0.
-fn show_item(bytes: &[u8], files: Files, kind: u8) {
+fn show_item(rt: &impl Print, bytes: &[u8], files: Files, kind: u8) {
     if kind == 32 {
         let mut out = [0u8; 65536];
-        show_in(bytes, files, &mut out);
+        show_in(rt, bytes, files, &mut out);
     }
 }
 
-fn show_in(bytes: &[u8], files: Files, out: &mut [u8; 65536]) {
+fn show_in(rt: &impl Print, bytes: &[u8], files: Files, out: &mut [u8; 65536]) {
     let n = listings::list(bytes, files, out);
-    print_text(out, n);
+    print_text(rt, out, n);
 }
 
 // The first n bytes, or, where they are many, how many.
-fn print_text(text: &[u8], n: usize) {
+fn print_text(rt: &impl Print, text: &[u8], n: usize) {
     if 1000 < n {
-        io::print_decimal(STDOUT_FILENO, n as u64);
-        io::write_all(STDOUT_FILENO, b" bytes\n");
+        let _ = println!(rt; "{n} bytes");
         return;
     }
     let start = Part { at: 0, len: n };
-    io::write_all(STDOUT_FILENO, lent(text, start));
+    let _ = rt.write_all(lent(text, start));
 }

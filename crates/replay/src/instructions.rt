@@ -173,7 +173,7 @@ pub fn last_bytes(bytes: &[u8], files: Files, call: &[u8]) -> bool {
 }
 
 // The answer said now, how often it is said again, and where the next run is.
-#[derive(Drop)]
+#[derive(Clone, Copy)]
 struct Run {
     said: Part,
     left: u16,

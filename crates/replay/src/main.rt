@@ -1,4 +1,6 @@
 // Replays the vectors that the oracle recorded: each call is asked of our own functions, and the answers are compared.
+#![tactic(auto)]
+
 mod calls;
 mod for_c;
 mod instructions;
@@ -8,37 +10,48 @@ use vectors::counts::{Counts, counted, no_counts, numbered, with_unknown};
 use vectors::items::{Files, Item, Part, What, files_after, item_at, kind_of, lent, no_files};
 use vectors::lines::{Total, both, print_counts, print_total, print_wrong, read};
 
-fn main() {
-    let rows = replay(b"rows.vec");
-    let store = both(replay(b"store.vec"), replay(b"slots.vec"));
-    let code = replay(b"code.vec");
-    let v8 = replay(b"v8.vec");
+fn main(rt: HostRuntime) {
+    let rows = replay(&rt, b"rows.vec");
+    let store = both(replay(&rt, b"store.vec"), replay(&rt, b"slots.vec"));
+    let code = replay(&rt, b"code.vec");
+    let v8 = replay(&rt, b"v8.vec");
     let written = both(
-        replay(b"write.vec"),
-        both(replay(b"write-code.vec"), replay(b"write-v8.vec")),
+        replay(&rt, b"write.vec"),
+        both(replay(&rt, b"write-code.vec"), replay(&rt, b"write-v8.vec")),
     );
-    let converted = both(replay(b"convert.vec"), replay(b"convert-v8.vec"));
-    print_total(both(
-        both(rows, store),
-        both(both(code, v8), both(written, converted)),
-    ));
-    print_wrong(replay(b"wrong.vec"));
+    let converted = both(replay(&rt, b"convert.vec"), replay(&rt, b"convert-v8.vec"));
+    print_total(
+        &rt,
+        both(
+            both(rows, store),
+            both(both(code, v8), both(written, converted)),
+        ),
+    );
+    print_wrong(&rt, replay(&rt, b"wrong.vec"));
 }
 
 // A file, in a buffer that is longer than any of them.
-fn replay(name: &[u8]) -> Total {
+fn replay(rt: &(impl std::rt::Files + Print + Eprint), name: &[u8]) -> Total {
     let mut buffer = [0u8; 1048576];
-    replay_in(name, &mut buffer)
+    replay_in(rt, name, &mut buffer)
 }
 
-fn replay_in(name: &[u8], buffer: &mut [u8; 1048576]) -> Total {
-    replay_with(name, buffer)
+fn replay_in(
+    rt: &(impl std::rt::Files + Print + Eprint),
+    name: &[u8],
+    buffer: &mut [u8; 1048576],
+) -> Total {
+    replay_with(rt, name, buffer)
 }
 
-fn replay_with(name: &[u8], buffer: &mut [u8]) -> Total {
-    let len = read(name, buffer);
+fn replay_with(
+    rt: &(impl std::rt::Files + Print + Eprint),
+    name: &[u8],
+    buffer: &mut [u8],
+) -> Total {
+    let len = read(rt, name, buffer);
     let whole = Part { at: 0, len };
-    print_counts(name, replay_file(lent(buffer, whole)))
+    print_counts(rt, name, replay_file(lent(buffer, whole)))
 }
 
 fn replay_file(bytes: &[u8]) -> Counts {

@@ -7,7 +7,7 @@ use vectors::items::{Files, behind, file};
 use vectors::said;
 
 // A slot's value as it is recorded.
-#[derive(Drop)]
+#[derive(Clone, Copy)]
 struct Told {
     kind: u64,
     number: u64,

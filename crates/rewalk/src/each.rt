@@ -3,7 +3,7 @@ use crate::{answers, walks};
 use vectors::items::{Files, Part, behind, file, first, lent};
 
 // The answer said now, how often it is said again, and where the next run is.
-#[derive(Drop)]
+#[derive(Clone, Copy)]
 struct Run {
     said: Part,
     left: u16,

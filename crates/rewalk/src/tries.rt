@@ -1,12 +1,11 @@
 // Functions with handler records: how many are closed, and how many handlers are reached. This is told from our answers and marks alone, whatever is recorded: of
 // real functions with V8's own handler tables each is closed, and each handler is reached.
 use crate::walks;
-use libc::STDOUT_FILENO;
 use vectors::items::{Files, Item, What, file, kind_of};
 use walk::Walked;
 
 // Functions, those that are closed, their records, and those of these whose handler has a mark.
-#[derive(Drop)]
+#[derive(Clone, Copy)]
 pub struct Tries {
     pub functions: u64,
     pub closed: u64,
@@ -81,18 +80,17 @@ fn reached(handlers: &[u8], marks: &[u8]) -> u64 {
 }
 
 // Where there are any.
-pub fn print(tries: Tries) {
+pub fn print(rt: &impl Print, tries: Tries) {
     if tries.functions == 0 {
         return;
     }
-    io::write_all(STDOUT_FILENO, b"tries: ");
-    print_2(tries.functions, b" functions, ", tries.closed, b" closed; ");
-    print_2(tries.records, b" handlers, ", tries.reached, b" reached\n");
-}
-
-fn print_2(a: u64, first: &[u8], b: u64, second: &[u8]) {
-    io::print_decimal(STDOUT_FILENO, a);
-    io::write_all(STDOUT_FILENO, first);
-    io::print_decimal(STDOUT_FILENO, b);
-    io::write_all(STDOUT_FILENO, second);
+    let Tries {
+        functions,
+        closed,
+        records,
+        reached,
+    } = tries;
+    let _ = println!(rt;
+        "tries: {functions} functions, {closed} closed; {records} handlers, {reached} reached"
+    );
 }

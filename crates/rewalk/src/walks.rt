@@ -10,12 +10,20 @@ use walk::Walked;
 const NO_OBJECT: u64 = 18446744073709551615;
 
 // 19, and 27 with records: object 0, with a mark buffer of the given length. The call's number says whether it is printed.
-pub fn of_object(bytes: &[u8], files: Files, call: &[u8], with: bool, number: u64) -> bool {
+pub fn of_object(
+    rt: &impl Print,
+    bytes: &[u8],
+    files: Files,
+    call: &[u8],
+    with: bool,
+    number: u64,
+) -> bool {
     let mut buffer = [7u8; 65540];
-    of_object_in(bytes, files, call, with, number, &mut buffer)
+    of_object_in(rt, bytes, files, call, with, number, &mut buffer)
 }
 
 fn of_object_in(
+    rt: &impl Print,
     bytes: &[u8],
     files: Files,
     call: &[u8],
@@ -29,7 +37,7 @@ fn of_object_in(
     }
     let marks = first(buffer, n);
     let walked = walk_object(bytes, files, with, marks);
-    show(bytes, files, with, number, walked);
+    show(rt, bytes, files, with, number, walked);
     answers::is_walked(behind(call, 8), walked, marks, code_len(bytes, files))
 }
 
@@ -53,12 +61,12 @@ pub fn walk_object(bytes: &[u8], files: Files, with: bool, marks: &mut [u8]) -> 
     )
 }
 
-fn show(bytes: &[u8], files: Files, with: bool, number: u64, walked: Walked) {
+fn show(rt: &impl Print, bytes: &[u8], files: Files, with: bool, number: u64, walked: Walked) {
     let code = file(bytes, files, 8);
     if with {
-        shown::show_with(number, code, file(bytes, files, 9), walked);
+        shown::show_with(rt, number, code, file(bytes, files, 9), walked);
     } else {
-        shown::show(number, code, walked);
+        shown::show(rt, number, code, walked);
     }
 }
 
@@ -150,12 +158,20 @@ fn told(status: u8, steps: usize, place: usize) -> Walked {
 }
 
 // 20, and 28 with records: the lent code, with a mark buffer of the given length.
-pub fn of_code(bytes: &[u8], files: Files, call: &[u8], with: bool, number: u64) -> bool {
+pub fn of_code(
+    rt: &impl Print,
+    bytes: &[u8],
+    files: Files,
+    call: &[u8],
+    with: bool,
+    number: u64,
+) -> bool {
     let mut buffer = [7u8; 65540];
-    of_code_in(bytes, files, call, with, number, &mut buffer)
+    of_code_in(rt, bytes, files, call, with, number, &mut buffer)
 }
 
 fn of_code_in(
+    rt: &impl Print,
     bytes: &[u8],
     files: Files,
     call: &[u8],
@@ -175,7 +191,7 @@ fn of_code_in(
     } else {
         walk_code(bytes, files, object, code, marks)
     };
-    show(bytes, files, with, number, walked);
+    show(rt, bytes, files, with, number, walked);
     answers::is_walked(behind(call, 16), walked, marks, code.len())
 }
 

@@ -1,6 +1,6 @@
 // How many calls there were of each function, and how many answers differed.
 
-#[derive(Drop)]
+#[derive(Clone, Copy)]
 pub enum Outcome {
     Same,
     Differs,
@@ -10,7 +10,7 @@ pub enum Outcome {
 
 // Calls, differences and the first call that differs, by row: a function's number, or a call for C (`lines` names them). A call's number
 // counts from 1 in its file.
-#[derive(Drop)]
+#[derive(Clone, Copy)]
 pub struct Counts {
     pub calls: [u64; 40],
     pub differences: [u64; 40],

@@ -2,14 +2,14 @@
 ghost use Rattle.std.specs.Prelude.{◌≡◌, ◌<◌, length, take, drop};
 
 // A part of the vector file.
-#[derive(Drop)]
+#[derive(Clone, Copy)]
 pub struct Part {
     pub at: usize,
     pub len: usize,
 }
 
 // One item: its kind, its body, and where the next item starts.
-#[derive(Drop)]
+#[derive(Clone, Copy)]
 pub struct Item {
     pub kind: u8,
     pub body: Part,
@@ -17,14 +17,14 @@ pub struct Item {
 }
 
 // Where in the vector file the eight record files, the lent code (8) and the handler records (9) are.
-#[derive(Drop)]
+#[derive(Clone, Copy)]
 pub struct Files {
     pub at: [usize; 10],
     pub len: [usize; 10],
 }
 
 // What an item is: it sets a file, the code or the handlers, it is a call of a function, or neither.
-#[derive(Drop)]
+#[derive(Clone, Copy)]
 pub enum What {
     Sets,
     Call(u8),
