@@ -1,4 +1,4 @@
-//! Links the archive that `rt staticlib capi` wrote; DOJISUN_ARCHIVE names another folder that holds libcapi.a.
+//! Links the archive that `capi/archive` wrote; DOJISUN_ARCHIVE names another folder that holds libcapi.a.
 
 use std::path::PathBuf;
 
@@ -10,7 +10,7 @@ fn main() {
     };
     let archive = folder.join("libcapi.a");
     if !archive.exists() {
-        panic!("no {}: run `rt staticlib capi` first", archive.display());
+        panic!("no {}: run `capi/archive` first", archive.display());
     }
     println!("cargo:rustc-link-search=native={}", folder.display());
     println!("cargo:rustc-link-lib=static=capi");

@@ -20,7 +20,7 @@ fn root() -> PathBuf {
 /// What the program prints for a table and a function that were exported.
 fn listed(folder: &Path, function: &str) -> String {
     let program = root().join("target/bin/jscd_list");
-    assert!(program.exists(), "no {}: run `rt check jscd_list` first", program.display());
+    assert!(program.exists(), "no {}: run `./programs jscd_list` first", program.display());
     let table = export::TABLE_FILES.iter().map(|name| folder.join("table").join(name));
     let store = export::STORE_FILES.iter().map(|name| folder.join(function).join(name));
     let out = Command::new(program).args(table.chain(store)).output().unwrap();

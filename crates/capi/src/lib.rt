@@ -1,6 +1,7 @@
-// The calls for C and Rust: numbers and lent bytes in, one number out. 0 is an answer, 1 to 27 a refusal's number, 255 the end of the
+// The calls for C and Rust, which `capi_c` gives C by their names: numbers and lent bytes in, one number out. 0 is an answer, 1 to 27 a refusal's number, 255 the end of the
 // code, 254 a walk that leaves. The place, or the answer's length, is written behind a pointer. All that is lent to a call is a parameter of its
 // own, and so is each number of its answer: the calls on lent code have up to thirteen parameters.
+#![tactic(auto)]
 
 ghost use Rattle.std.specs.Prelude.{◌≡◌};
 ghost use Rattle.function.specs.Files.{Files, files_of, lent_files};
@@ -22,8 +23,7 @@ use text::Written;
 use walk::Walked;
 
 // The listing of an object into `out`: its length in `place`, or the refusal's place, with `out` as it was.
-#[unsafe(no_mangle)]
-pub extern "C" fn jscd_list(
+pub fn jscd_list(
     out: &mut [u8],
     opcodes: &[u8],
     types: &[u8],
@@ -47,8 +47,7 @@ pub extern "C" fn jscd_list(
 }
 
 // An opcode file of 01's form with its flows filled in by name, into `out`: its length in `place`, or the refusal's place, with `out` as it was.
-#[unsafe(no_mangle)]
-pub extern "C" fn jscd_to_new(out: &mut [u8], opcodes: &[u8], types: &[u8], place: &mut usize) -> u8
+pub fn jscd_to_new(out: &mut [u8], opcodes: &[u8], types: &[u8], place: &mut usize) -> u8
     ensures { (result, place.new, out.new) ≡ buffer_told (to_new_call opcodes.now types.now out.old) }
 {
     let written = convert::to_new(out, opcodes, types);
@@ -56,8 +55,7 @@ pub extern "C" fn jscd_to_new(out: &mut [u8], opcodes: &[u8], types: &[u8], plac
 }
 
 // The way back.
-#[unsafe(no_mangle)]
-pub extern "C" fn jscd_to_old(out: &mut [u8], opcodes: &[u8], types: &[u8], place: &mut usize) -> u8
+pub fn jscd_to_old(out: &mut [u8], opcodes: &[u8], types: &[u8], place: &mut usize) -> u8
     ensures { (result, place.new, out.new) ≡ buffer_told (to_old_call opcodes.now types.now out.old) }
 {
     let written = convert::to_old(out, opcodes, types);
@@ -66,8 +64,7 @@ pub extern "C" fn jscd_to_old(out: &mut [u8], opcodes: &[u8], types: &[u8], plac
 
 // The bytes of the instruction that 28 numbers tell, as jscd_decode tells them, into `out`: their number in `place`, or the refusal's place, with `out`
 // as it was. Where the instruction ends is not read.
-#[unsafe(no_mangle)]
-pub extern "C" fn jscd_write(
+pub fn jscd_write(
     out: &mut [u8],
     opcodes: &[u8],
     types: &[u8],
@@ -120,8 +117,7 @@ fn tell_written(written: Written, place: &mut usize) -> u8
 
 // The walks of an object. 254: one leaves, its steps in `steps`, the offset it leaves from in `place`. Else `steps` is 0, and `place` the
 // refusal's place or 0. The marks are those of the walk check; after a refusal they are as they were.
-#[unsafe(no_mangle)]
-pub extern "C" fn jscd_walk(
+pub fn jscd_walk(
     marks: &mut [u8],
     opcodes: &[u8],
     types: &[u8],
@@ -147,8 +143,7 @@ pub extern "C" fn jscd_walk(
 }
 
 // The same with what is lent beside: handler records.
-#[unsafe(no_mangle)]
-pub extern "C" fn jscd_walk_with(
+pub fn jscd_walk_with(
     marks: &mut [u8],
     opcodes: &[u8],
     types: &[u8],
@@ -177,8 +172,7 @@ pub extern "C" fn jscd_walk_with(
 }
 
 // The walks of lent code, with the pool of object number `object` where `lent` is not 0. The answer and the marks are told as by jscd_walk.
-#[unsafe(no_mangle)]
-pub extern "C" fn jscd_walk_code(
+pub fn jscd_walk_code(
     marks: &mut [u8],
     code: &[u8],
     opcodes: &[u8],
@@ -206,8 +200,7 @@ pub extern "C" fn jscd_walk_code(
 }
 
 // The same with handler records.
-#[unsafe(no_mangle)]
-pub extern "C" fn jscd_walk_code_with(
+pub fn jscd_walk_code_with(
     marks: &mut [u8],
     code: &[u8],
     opcodes: &[u8],
@@ -272,8 +265,7 @@ fn pool_object(lent: u8, object: usize) -> PoolObject
 
 // The target of the jump at a place of lent code: `values` is 1 and the target, or 0 where there is none. 255: the place is the code's end.
 // `place` is that place, the refusal's place, or 0. A value that is not there is 0.
-#[unsafe(no_mangle)]
-pub extern "C" fn jscd_target(
+pub fn jscd_target(
     code: &[u8],
     at: usize,
     opcodes: &[u8],
@@ -301,8 +293,7 @@ pub extern "C" fn jscd_target(
 
 // Entry k of the switch at a place of lent code: `values` is 1, the case and the target; 2 where the element is skipped, 3 where the table has no
 // entry k, 0 where there is no table. Else as jscd_target.
-#[unsafe(no_mangle)]
-pub extern "C" fn jscd_entry(
+pub fn jscd_entry(
     code: &[u8],
     at: usize,
     opcodes: &[u8],
@@ -398,8 +389,7 @@ fn tell_entry(answer: EntryAnswer, at: usize, place: &mut usize, values: &mut [u
 // The instruction at a place of lent code, as 28 numbers: opcode, scale, the place where it ends, how many operands, and three numbers
 // for each of eight operands. `place` is where it ends, the refusal's place, or the start place at the end. Unless it answers, the 28
 // numbers are as they were.
-#[unsafe(no_mangle)]
-pub extern "C" fn jscd_decode(
+pub fn jscd_decode(
     opcodes: &[u8],
     types: &[u8],
     layout: &[u8],
