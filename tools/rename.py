@@ -8,7 +8,8 @@ Own names are what specs/ and the lemma files of proofs/ declare: definitions, l
 constructors become snake case, a predicate upper camel case, a dash in a lemma stays only between two names of definitions, a
 prime is an apostrophe. Names of libraries, of Rust source and what Rattle makes from it stay: a name is respelled in a file where
 it is declared or imported from a file of ours, behind a dot where it is a field or a member of a module of ours, and in the code
-spans of comments and pages where one new name is meant. A second run changes nothing.
+spans of comments and pages where one new name is meant. It was run once, behind the toolchain's own script; in answers and invariants written since,
+it would take names that the check makes for ours.
 """
 import collections
 import os
