@@ -22,6 +22,9 @@ const NO_ARGUMENT: i32 = 22;
 
 const NAME_TOO_LONG: i32 = 36;
 
+// Room for an argument: a file's name is shorter.
+const NAME_ROOM: usize = 4096;
+
 // How many arguments the program was started with, its own name among them.
 pub fn argument_count(rt: &impl Env) -> usize {
     for i in 0..usize::MAX {
@@ -42,7 +45,7 @@ fn has_argument(rt: &impl Env, i: usize) -> bool {
 
 // Whether argument i is a word.
 pub fn is_argument(rt: &impl Env, i: usize, word: &[u8]) -> bool {
-    let mut path = [0u8; 4096];
+    let mut path = [0u8; NAME_ROOM];
     match rt.arg(i, &mut path) {
         Ok(n) => is_word(&path[..n], word),
         Err(_) => is_word(&[], word),
@@ -67,7 +70,7 @@ fn is_word(s: &[u8], word: &[u8]) -> bool {
 pub fn load_argument(rt: &(impl Files + Env + Eprint), i: usize, buffer: &mut [u8]) -> Loaded
     ensures { IsPrefixLen result.size buffer.new }
 {
-    let mut path = [0u8; 4096];
+    let mut path = [0u8; NAME_ROOM];
     match rt.arg(i, &mut path) {
         Ok(n) => load_file(rt, &path[..n], buffer),
         Err(FillError::NotPresent) => {
