@@ -5,7 +5,8 @@ use mathlib.Core.List.{List, [], ◌∷◌}
 use native.Mathlib.Omega.{arith}
 use lib.ListN.{length, drop}
 use Rattle.refusal.specs.Numbers.{Numbers}
-use Rattle.refusal.proofs.Numbers.{refused_or, end_or, count}
+use Rattle.refusal.specs.declared.Refusal.{Refusal}
+use Rattle.refusal.proofs.Numbers.{refusal_back, refused_or, end_or, count}
 use Rattle.operand.proofs.Numbers.{Leading, leading, operand_leads}
 use Rattle.decoder.specs.declared.OperandRecord.{OperandRecord}
 use Rattle.decoder.specs.declared.Instr.{Instr}
@@ -20,7 +21,7 @@ outcome_of n = refused_or Outcome.Refused (λ vs. end_or Outcome.End Outcome.Don
 
 outcome_back : (start : ℕ) (o : Outcome) (i : Instr) → outcome_of (outcome_numbers start o i) ≡ o
 outcome_back start Outcome.End i = refl
-outcome_back start (Outcome.Refused r) i = refl
+outcome_back start (Outcome.Refused r) i = ap (λ (x : Refusal). Outcome.Refused x) (refusal_back r)
 outcome_back start Outcome.Done i = refl
 
 -- with the instruction, which is blank unless one was decoded, the numbers say all

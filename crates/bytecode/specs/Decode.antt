@@ -1,6 +1,7 @@
 -- Decoding one instruction, as a call of 01: the checks for what it is lent, in 01's order, then the instruction at the place.
 use Rattle.std.specs.Prelude.{ℕ, List, [], leb, length}
-use Rattle.refusal.specs.declared.Check.{Check}
+use Rattle.refusal.specs.Check.{Check}
+use Rattle.refusal.specs.declared.Fault.TheVariants as fault
 use Rattle.refusal.specs.declared.Refusal.{Refusal}
 use Rattle.refusal.specs.Check.{first_refusal, refuse_unless, guarded}
 use Rattle.tables.specs.Check.{check_table}
@@ -13,7 +14,7 @@ use Rattle.decoder.specs.Listed.{decodes}
 
 -- row 10: "lent code above 65,536 bytes"
 abbrev pub check_code : List ℕ → Check
-check_code code = refuse_unless (leb (length code) 65536) 10
+check_code code = refuse_unless (leb (length code) 65536) fault.LongCode
 
 -- the instruction is blank where decoding is refused
 abbrev pub refused_by : Refusal → Decoded

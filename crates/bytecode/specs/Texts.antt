@@ -3,8 +3,7 @@ use Rattle.std.specs.Prelude.{ℕ, List, [], ◌++◌, cond, eqb, ℤ, pos, ◌-
 use Rattle.laws.specs.Ascii.{ascii}
 use Rattle.words.specs.Signed.{wrap32, list_last, param_number, negative, eq_z}
 use Rattle.text.specs.Texts.{decimal, signed_decimal}
-use Rattle.layout.specs.declared.ParamBase.{ParamBase}
-use Rattle.layout.specs.declared.ParamBase.TheVariants as base
+use Rattle.std.specs.Prelude.{Option, Some, None}
 use Rattle.layout.specs.declared.Frame.{Frame}
 use Rattle.tables.specs.Texts.{type_name, runtime_name, intrinsic_name}
 use Rattle.flow.specs.Opcodes.{Opcodes}
@@ -12,9 +11,9 @@ use Rattle.operand.specs.declared.Operand.{Operand}
 use Rattle.operand.specs.declared.Operand.TheVariants.{Nothing, Reg, RegList, Imm, Idx, Flag8, Flag16, RuntimeId, IntrinsicId, Raw}
 
 -- the number of the parameter that a negative index means: from the base and the parameter count where there is a base
-abbrev pub parameter_index : ParamBase → ℤ → ℤ → ℤ → ℤ
-parameter_index (base.At b) first params index = param_number index b params
-parameter_index base.Absent first params index = wrap32 (first -ℤ index)
+abbrev pub parameter_index : Option ℤ → ℤ → ℤ → ℤ → ℤ
+parameter_index (Some b) first params index = param_number index b params
+parameter_index None first params index = wrap32 (first -ℤ index)
 
 -- parameter 0 is the receiver
 unfoldable pub param_name : ℤ → List ℕ

@@ -1,10 +1,12 @@
 // One instruction: decoded with 01's checks, and its operands, registers and name as text.
 #![tactic(auto)]
 
-ghost use Rattle.std.specs.Prelude.{◌≡◌, ◌++◌, cond, eqb};
+ghost use Rattle.std.specs.Prelude.{◌≡◌, [], ◌++◌, cond, eqb};
 ghost use Rattle.laws.specs.Ascii.{ascii};
+ghost use Rattle.refusal.specs.Check.{first_refusal};
 ghost use Rattle.text.specs.Put.{Put};
 ghost use Rattle.text.specs.Texts.{decimal, signed_decimal};
+ghost use Rattle.tables.specs.Check.{check_table};
 ghost use Rattle.tables.specs.Texts.{type_name, runtime_name, intrinsic_name};
 ghost use Rattle.layout.specs.Layout.{signed_value};
 ghost use Rattle.flow.specs.Opcodes.{opcodes_of};
@@ -15,26 +17,27 @@ ghost use Rattle.bytecode.specs.Numbers.{decoded_numbers};
 
 use decoder::{Decoded, Outcome};
 use operand::Operand;
-use refusal::Check;
-use tables::{Frame, ParamBase};
+use refusal::{Fault, Refusal};
+use tables::Frame;
 
 // The instruction at place start of lent code: rows 1 to 5 and 10, then 20 and 11 to 15; "end" at the code's length.
+#[tactic(auto, unfolding(crate::specs::Decode::decode_one))]
 pub fn decode(opcodes: &[u8], types: &[u8], layout: &[u8], code: &[u8], start: usize) -> Decoded
     ensures { (decoded_numbers start result
         ≡ decoded_numbers start (decode_one opcodes.now types.now layout.now code.now start))
         × (result.instr ≡ (decode_one opcodes.now types.now layout.now code.now start).instr) }
 {
-    let table = tables::check_table(opcodes, types, b"", b"", layout);
-    match refusal::first_refusal(table, check_code(code)) {
-        Check::Refused(refusal) => Decoded {
+    match check_lent(opcodes, types, layout, code) {
+        Err(refusal) => Decoded {
             outcome: Outcome::Refused(refusal),
             instr: decoder::blank_instr(),
         },
-        Check::Ok => decode_unchecked(opcodes, types, layout, code, start),
+        Ok(()) => decode_unchecked(opcodes, types, layout, code, start),
     }
 }
 
 // A register's name.
+#[tactic(auto, unfolding(crate::specs::Texts::reg_name))]
 pub fn reg_name(out: &mut [u8], at: usize, frame: Frame, params: i32, index: i32) -> usize
     ensures { Put out.old at (reg_name frame params index) out.new result }
 {
@@ -57,6 +60,7 @@ pub fn reg_name(out: &mut [u8], at: usize, frame: Frame, params: i32, index: i32
 }
 
 // An operand as text.
+#[tactic(auto, unfolding(crate::specs::Texts::operand_text))]
 pub fn render_operand(
     out: &mut [u8],
     at: usize,
@@ -71,6 +75,7 @@ pub fn render_operand(
         (record { types = types.now; runtime = runtime.now; intrinsic = intrinsic.now }) frame params op) out.new result }
 {
     match op {
+        // Not at itself: a place behind 2 ^ 63 is told as 2 ^ 63.
         Operand::Nothing => text::saturating_add(at, 0),
         Operand::Reg(i) => reg_name(out, at, frame, params, i),
         Operand::RegList { first, count } => list_name(out, at, frame, params, first, count),
@@ -85,6 +90,7 @@ pub fn render_operand(
 }
 
 // An instruction's name, with its prefix.
+#[tactic(auto, unfolding(crate::specs::Texts::instr_name))]
 pub fn instr_name(out: &mut [u8], at: usize, opcodes: &[u8], opcode: u8, scale: u8) -> usize
     ensures { Put out.old at (instr_name (opcodes_of opcodes.now) opcode scale) out.new result }
 {
@@ -106,21 +112,30 @@ fn put_prefix(out: &mut [u8], at: usize, scale: u8) -> usize
     }
 }
 
-pub fn check_code(code: &[u8]) -> Check
-    ensures { result ≡ check_code code.now }
+// Rows 1 to 5 and 10.
+fn check_lent(opcodes: &[u8], types: &[u8], layout: &[u8], code: &[u8]) -> Result<(), Refusal>
+    ensures { result ≡ first_refusal (check_table opcodes.now types.now [] [] layout.now) (check_code code.now) }
 {
-    refusal::refuse_unless(code.len() <= 65536, refusal::LONG_CODE)
+    tables::check_table(opcodes, types, b"", b"", layout)?;
+    check_code(code)
 }
 
-fn parameter_index(base: ParamBase, first: i32, params: i32, index: i32) -> i32
+pub fn check_code(code: &[u8]) -> Result<(), Refusal>
+    ensures { result ≡ check_code code.now }
+{
+    refusal::refuse_unless(code.len() <= 65536, Fault::LongCode)
+}
+
+fn parameter_index(base: Option<i32>, first: i32, params: i32, index: i32) -> i32
     ensures { result ≡ parameter_index base first params index }
 {
     match base {
-        ParamBase::At(b) => words::param_number(index, b, params),
-        ParamBase::Absent => words::wrapping_sub_i32(first, index),
+        Some(b) => words::param_number(index, b, params),
+        None => words::wrapping_sub_i32(first, index),
     }
 }
 
+#[tactic(auto, unfolding(crate::specs::Texts::param_name))]
 fn param_name(out: &mut [u8], at: usize, p: i32) -> usize
     ensures { Put out.old at (param_name p) out.new result }
 {
@@ -195,6 +210,7 @@ fn put_raw(out: &mut [u8], at: usize, types: &[u8], ty: u8, value: u64) -> usize
 }
 
 // The instruction at place start, by the prefix opcodes and the layout's reg_file_start.
+#[tactic(auto, unfolding(layout::specs::Layout::layout_of))]
 pub fn decode_unchecked(
     opcodes: &[u8],
     types: &[u8],

@@ -8,8 +8,8 @@ use lib.IntN.{ℤ}
 use lib.ListN.{length, get_or}
 use Rattle.laws.specs.Scan.{first_from}
 use Rattle.laws.proofs.Tests.{by_test}
-use Rattle.refusal.specs.declared.Check.{Check}
-use Rattle.refusal.specs.declared.Check.TheVariants.{Ok, Refused}
+use Rattle.std.specs.Prelude.{Ok, Err}
+use Rattle.refusal.specs.Check.{Check}
 use Rattle.refusal.specs.Check.{guarded, first_refusal}
 use Rattle.refusal.specs.Numbers.{Numbers}
 use Rattle.tables.specs.Check.{check_table}
@@ -21,7 +21,7 @@ use Rattle.decoder.specs.declared.Instr.{Instr}
 use Rattle.decoder.specs.declared.Outcome.{Outcome}
 use Rattle.decoder.specs.declared.Decoded.{Decoded}
 use Rattle.prefix.specs.Head.{head_at}
-use Rattle.decoder.specs.Decode.{Part, parts_from, operand_types, part_width, offset_of, operands_from, is_short, short_number, records_of, instr_of, refused_at, read_parts, decode_head, decode_at}
+use Rattle.decoder.specs.Decode.{Part, parts_from, operand_types, part_width, offset_of, operands_from, is_short, short_fault, records_of, instr_of, refused_at, read_parts, decode_head, decode_at}
 use Rattle.decoder.specs.Listed.{decodes}
 use Rattle.bytecode.specs.Decode.{check_code, refused_by, decode_one}
 use Rattle.bytecode.specs.Numbers.{outcome_numbers, decoded_numbers}
@@ -44,7 +44,7 @@ eight_parts code types scale opcode rfs start at ps =
     let ws = map (part_width types scale) ps in
     let k = first_from (is_short code ws at) 0 (length ps) in
     let os = operands_from code ws at rfs 0 ps in
-    by_test Eight (ltb k (length ps)) {x = refused_at (short_number (get_or ps k Part.count)) (at + offset_of ws k)}
+    by_test Eight (ltb k (length ps)) {x = refused_at (short_fault (get_or ps k Part.count)) (at + offset_of ws k)}
     {y = record { outcome = Outcome.Done; instr = instr_of start opcode scale (at + offset_of ws (length ps)) os }} (λ t. refl) (λ t. records-length 8 os)
 
 eight_head : (h : Head) (code : List ℕ) (ops : Opcodes) (types : List ℕ) (start : ℕ) (rfs : ℤ) → Eight (decode_head h code ops types start rfs)
@@ -57,8 +57,8 @@ unfolding decode_one decode_at
 eight ops types layout code start = go (first_refusal (check_table ops types [] [] layout) (check_code code))
   where
     go : (c : Check) → Eight (guarded c refused_by (decodes code (opcodes_of ops) types (signed_value layout 13) start))
-    go Ok = let o = opcodes_of ops in eight_head (head_at code o.many start (prefix_with o 1) (prefix_with o 2)) code o types start (signed_value layout 13)
-    go (Refused r) = refl
+    go (Ok tt) = let o = opcodes_of ops in eight_head (head_at code o.many start (prefix_with o 1) (prefix_with o 2)) code o types start (signed_value layout 13)
+    go (Err r) = refl
 
 -- ---- as it is told
 module _ (ops types layout code : List ℕ) (start : ℕ) (d : Decoded) (ns : List ℕ)

@@ -8,13 +8,16 @@ use lib.Dec.{leb, ltb}
 use lib.IntN.{ℤ}
 use lib.ListN.{length, drop}
 use Rattle.refusal.specs.declared.Refusal.{Refusal}
-use Rattle.refusal.specs.declared.Check.{Check}
-use Rattle.refusal.specs.declared.Check.TheVariants.{Ok, Refused}
+use Rattle.std.specs.Prelude.{Option, Some, None, Result, Ok, Err}
+use Rattle.refusal.specs.Check.{Check}
+use Rattle.targets.specs.declared.Entries.{Entries}
+use Rattle.targets.specs.declared.Case.{Case}
+use Rattle.refusal.specs.declared.Fault.{Fault}
+use Rattle.refusal.specs.declared.Fault.TheVariants as fault
+use Rattle.refusal.specs.Fault.{number_of}
 use Rattle.refusal.specs.Numbers.{Numbers}
 use Rattle.refusal.specs.Check.{refusal_at, first_refusal, refuse_unless, guarded, guarded_on}
 use Rattle.refusal.proofs.Laws.{never}
-use Rattle.text.specs.declared.Written.{Written}
-use Rattle.text.specs.declared.Written.TheVariants as written
 use Rattle.text.specs.Written.{put_text}
 use Rattle.serializer.specs.declared.Elem.{Elem}
 use Rattle.layout.specs.Layout.{signed_value}
@@ -25,13 +28,6 @@ use Rattle.decoder.specs.Decode.{operand_types}
 use Rattle.writer.specs.Write.{scale_ok, opcode_fits, operands_ok, given, check_write, written_bytes, write_call}
 use Rattle.flow.specs.Opcodes.{Opcodes, opcodes_of}
 use Rattle.targets.specs.Targets.{here, found, jump_target, jump_table, entry_at}
-use Rattle.targets.specs.declared.Target.{Target}
-use Rattle.targets.specs.declared.Target.TheVariants as target
-use Rattle.targets.specs.declared.Table.{Table}
-use Rattle.targets.specs.declared.Table.TheVariants as table
-use Rattle.targets.specs.declared.Entry.{Entry}
-use Rattle.targets.specs.declared.Entry.TheVariants as entry
-use Rattle.function.specs.declared.PoolObject.{PoolObject}
 use Rattle.function.specs.Files.{Files, check_lent}
 use Rattle.function.specs.Pool.{lent_pool, lent_elem}
 use Rattle.function.specs.Code.{decoded_at, code_check}
@@ -41,6 +37,7 @@ use Rattle.jumps.specs.declared.EntryAnswer.TheVariants as entry-answer
 use Rattle.jumps.specs.Numbers.{target_numbers, entry_numbers}
 use Rattle.jumps.specs.Jumps.{target_told, target_after, target_of, target_call, table_told, table_after, table_of, table_call, entry_told, entry_of, entry_call}
 use Rattle.walk.proofs.Rows.{RowOf, table_row, lent_row, decode_row}
+use Rattle.targets.specs.declared.BadSwitch.{BadSwitch}
 
 -- the numbers of a refusal, which has no values
 abbrev Told : Numbers → Type 0
@@ -51,71 +48,71 @@ some v vs e = absurd (omega (arith, ap length e))
 
 -- ---- targets
 module _ (at : ℕ) where
-  pub target_row : (f : Files) (w : PoolObject) (code : List ℕ) → Told (target_numbers at (target_call f w code at))
+  pub target_row : (f : Files) (w : Option ℕ) (code : List ℕ) → Told (target_numbers at (target_call f w code at))
   unfolding target_call target_of
   target_row f w code = checked (check_lent f w code) (lent_row f w code)
     where
-      decoded : (o : Outcome) (t : Target) → RowOf (code_check o) → Told (target_numbers at (target_after o (target_told t)))
+      decoded : (o : Outcome) (t : Option ℕ) → RowOf (code_check o) → Told (target_numbers at (target_after o (target_told t)))
       decoded Outcome.End t row e = some _ _ e
       decoded (Outcome.Refused r) t row e = ((row.row r refl).least, (row.row r refl).most)
-      decoded Outcome.Done (target.At t) row e = some _ _ e
-      decoded Outcome.Done target.Nothing row e = some _ _ e
+      decoded Outcome.Done (Some t) row e = some _ _ e
+      decoded Outcome.Done None row e = some _ _ e
 
       checked : (c : Check) → RowOf c → Told (target_numbers at (guarded c target-answer.Refused (target_of (opcodes_of f.opcodes) (lent_elem f w) (decoded_at f code at))))
-      checked Ok row e = let d = decoded_at f code at in decoded d.outcome (jump_target (lent_elem f w) ((opcodes_of f.opcodes).flow d.instr.opcode) d.instr) (decode_row code (opcodes_of f.opcodes) f.types (signed_value f.layout 13) at) e
-      checked (Refused r) row e = ((row.row r refl).least, (row.row r refl).most)
+      checked (Ok tt) row e = let d = decoded_at f code at in decoded d.outcome (jump_target (lent_elem f w) ((opcodes_of f.opcodes).flow d.instr.opcode) d.instr) (decode_row code (opcodes_of f.opcodes) f.types (signed_value f.layout 13) at) e
+      checked (Err r) row e = ((row.row r refl).least, (row.row r refl).most)
 
   -- ---- entries
-  pub entry_row : (f : Files) (w : PoolObject) (code : List ℕ) (k : ℕ) → Told (entry_numbers at (entry_call f w code at k))
+  pub entry_row : (f : Files) (w : Option ℕ) (code : List ℕ) (k : ℕ) → Told (entry_numbers at (entry_call f w code at k))
   unfolding entry_call table_call table_of
   entry_row f w code k = checked (check_lent f w code) (lent_row f w code)
     where
-      el : ℕ → Elem
+      el : ℕ → Option Elem
       el = lent_elem f w
 
       from : ℕ
       from = here (decoded_at f code at).instr
 
-      entry_told_lem : (b : Bool) (x : Entry) → Told (entry_numbers at (cond b (entry_told x) entry-answer.Beyond))
-      entry_told_lem true (entry.Shown c t) e = some _ _ e
-      entry_told_lem true entry.Skipped e = some _ _ e
+      entry_told_lem : (b : Bool) (x : Option Case) → Told (entry_numbers at (cond b (entry_told x) entry-answer.Beyond))
+      entry_told_lem true (Some c) e = some _ _ e
+      entry_told_lem true None e = some _ _ e
       entry_told_lem false x e = some _ _ e
 
-      shown : (t : Table) → Told (entry_numbers at (entry_of el from (table_told t at) k))
-      shown table.Nothing e = some _ _ e
-      shown (table.At s) e = entry_told_lem (ltb k s.count) (entry_at el from s k) e
-      shown table.Refused e = (omega arith, omega arith)
+      shown : (t : Result (Option Entries) BadSwitch) → Told (entry_numbers at (entry_of el from (table_told t at) k))
+      shown (Ok None) e = some _ _ e
+      shown (Ok (Some s)) e = entry_told_lem (ltb k s.count) (entry_at el from s k) e
+      shown (Err b) e = (omega arith, omega arith)
 
-      decoded : (o : Outcome) (t : Table) → RowOf (code_check o) → Told (entry_numbers at (entry_of el from (table_after o (table_told t at)) k))
+      decoded : (o : Outcome) (t : Result (Option Entries) BadSwitch) → RowOf (code_check o) → Told (entry_numbers at (entry_of el from (table_after o (table_told t at)) k))
       decoded Outcome.End t row e = some _ _ e
       decoded (Outcome.Refused r) t row e = ((row.row r refl).least, (row.row r refl).most)
       decoded Outcome.Done t row e = shown t e
 
       checked : (c : Check) → RowOf c → Told (entry_numbers at (entry_of el from (guarded c table-answer.Refused (table_of (opcodes_of f.opcodes) (found (lent_pool f w)) (decoded_at f code at) at)) k))
-      checked Ok row e = let d = decoded_at f code at in decoded d.outcome (jump_table (found (lent_pool f w)) ((opcodes_of f.opcodes).flow d.instr.opcode) d.instr) (decode_row code (opcodes_of f.opcodes) f.types (signed_value f.layout 13) at) e
-      checked (Refused r) row e = ((row.row r refl).least, (row.row r refl).most)
+      checked (Ok tt) row e = let d = decoded_at f code at in decoded d.outcome (jump_table (found (lent_pool f w)) ((opcodes_of f.opcodes).flow d.instr.opcode) d.instr) (decode_row code (opcodes_of f.opcodes) f.types (signed_value f.layout 13) at) e
+      checked (Err r) row e = ((row.row r refl).least, (row.row r refl).most)
 
 -- ---- what is written: 1 to 5, 17, and 02's 21 to 23, so that a refusal is never told as 0
-abbrev pub Some : Check → Type 0
-Some c = (r : Refusal) → c ≡ Refused r → 1 ≤ r.number
+abbrev pub Numbered : Check → Type 0
+Numbered c = (r : Refusal) → c ≡ Err r → 1 ≤ number_of r.fault
 
-pub some_unless : (good : Bool) (n : ℕ) → 1 ≤ n → Some (refuse_unless good n)
-some_unless true n h r e = never r (sym e)
-some_unless false n h r e = let z : refusal_at n 0 ≡ r = cc in rw (← z) h
+pub some_unless : (good : Bool) (f : Fault) → 1 ≤ number_of f → Numbered (refuse_unless good f)
+some_unless true f h r e = never r (sym e)
+some_unless false f h r e = let z : refusal_at f 0 ≡ r = cc in rw (← z) h
 
-pub some_first : (a b : Check) → Some a → Some b → Some (first_refusal a b)
-some_first Ok b p q = q
-some_first (Refused r) b p q = p
+pub some_first : (a b : Check) → Numbered a → Numbered b → Numbered (first_refusal a b)
+some_first (Ok tt) b p q = q
+some_first (Err r) b p q = p
 
-some_write : (ops : Opcodes) (types : List ℕ) (rfs : ℤ) (i : Instr) → Some (check_write ops types rfs i)
+some_write : (ops : Opcodes) (types : List ℕ) (rfs : ℤ) (i : Instr) → Numbered (check_write ops types rfs i)
 some_write ops types rfs i =
     let a = scale_ok ops i.scale in
     let b = opcode_fits ops i.scale i.opcode in
     let c = leb i.count 8 && operands_ok types i.scale rfs false (operand_types ops i.opcode) (given i) in
-    some_first (refuse_unless a 21) (first_refusal (refuse_unless b 22) (refuse_unless c 23)) (some_unless a 21 (omega arith))
-    (some_first (refuse_unless b 22) (refuse_unless c 23) (some_unless b 22 (omega arith)) (some_unless c 23 (omega arith)))
+    some_first (refuse_unless a fault.WrongScale) (first_refusal (refuse_unless b fault.WrongOpcode) (refuse_unless c fault.WrongOperands)) (some_unless a fault.WrongScale (omega arith))
+    (some_first (refuse_unless b fault.WrongOpcode) (refuse_unless c fault.WrongOperands) (some_unless b fault.WrongOpcode (omega arith)) (some_unless c fault.WrongOperands (omega arith)))
 
-pub write_row : (ops types layout : List ℕ) (i : Instr) (out : List ℕ) (r : Refusal) → (write_call ops types layout i out).0 ≡ written.Refused r → 1 ≤ r.number
+pub write_row : (ops types layout : List ℕ) (i : Instr) (out : List ℕ) (r : Refusal) → (write_call ops types layout i out).0 ≡ Err r → 1 ≤ number_of r.fault
 unfolding write_call
 write_row ops types layout i out r = go (check_table ops types [] [] layout) (check_write (opcodes_of ops) types (signed_value layout 13) i)
     (λ q e. ((table_row ops types [] [] layout).row q e).least) (some_write (opcodes_of ops) types (signed_value layout 13) i)
@@ -123,11 +120,11 @@ write_row ops types layout i out r = go (check_table ops types [] [] layout) (ch
     t : List ℕ
     t = written_bytes (opcodes_of ops) types (signed_value layout 13) i
 
-    put : (b : Bool) → let x : Written × List ℕ = cond b (written.Done (length t), t ++ drop (length t) out) (written.Refused (refusal_at 17 0), out) in x.0 ≡ written.Refused r → 1 ≤ r.number
+    put : (b : Bool) → let x : Result ℕ Refusal × List ℕ = cond b (Ok (length t), t ++ drop (length t) out) (Err (refusal_at fault.ShortOutput 0), out) in x.0 ≡ Err r → 1 ≤ number_of r.fault
     put true e = let z : ◌≡◌ {A = ℕ} 0 1 = cc in absurd (omega arith)
-    put false e = let z : refusal_at 17 0 ≡ r = cc in rw (← z) (omega arith)
+    put false e = let z : refusal_at fault.ShortOutput 0 ≡ r = cc in rw (← z) (omega arith)
 
-    go : (a b : Check) → Some a → Some b → let x : Written × List ℕ = guarded_on (first_refusal a b) written.Refused out (put_text t out) in x.0 ≡ written.Refused r → 1 ≤ r.number
-    go (Refused q) b p s e = let z : q ≡ r = cc in rw (← z) (p q refl)
-    go Ok (Refused q) p s e = let z : q ≡ r = cc in rw (← z) (s q refl)
-    go Ok Ok p s e = put (leb (length t) (length out)) e
+    go : (a b : Check) → Numbered a → Numbered b → let x : Result ℕ Refusal × List ℕ = guarded_on (first_refusal a b) Err out (put_text t out) in x.0 ≡ Err r → 1 ≤ number_of r.fault
+    go (Err q) b p s e = let z : q ≡ r = cc in rw (← z) (p q refl)
+    go (Ok tt) (Err q) p s e = let z : q ≡ r = cc in rw (← z) (s q refl)
+    go (Ok tt) (Ok u) p s e = put (leb (length t) (length out)) e

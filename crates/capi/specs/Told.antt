@@ -1,43 +1,41 @@
 -- The answers of the calls as numbers, for C.
 use Rattle.std.specs.Prelude.{ℕ, zero, suc, ◌≤◌, ◌≡◌, List, [], ◌∷◌, map, cond, eqb, ℤ, nat_abs}
-use Rattle.refusal.specs.declared.Check.{Check}
-use Rattle.refusal.specs.declared.Check.TheVariants.{Ok, Refused}
+use Rattle.std.specs.Prelude.{Option, Some, None, Result, Ok, Err}
+use Rattle.refusal.specs.declared.Refusal.{Refusal}
+use Rattle.refusal.specs.Check.{Check}
+use Rattle.search.specs.declared.Walked.{Walked}
+use Rattle.refusal.specs.declared.Fault.TheVariants as fault
+use Rattle.search.specs.declared.Walked.TheVariants as walked
 use Rattle.refusal.specs.Check.{refusal_at}
 use Rattle.refusal.specs.Numbers.{Numbers}
 use Rattle.numbers.specs.Told.{told64}
-use Rattle.function.specs.declared.PoolObject.{PoolObject}
-use Rattle.function.specs.declared.PoolObject.TheVariants as pool-object
 use Rattle.steps.specs.Steps.{Source}
-use Rattle.text.specs.declared.Written.{Written}
-use Rattle.text.specs.declared.Written.TheVariants as written
 use Rattle.text.specs.Numbers.{written_numbers}
 use Rattle.numbers.specs.Back.{opcode_known, told_instr}
 use Rattle.writer.specs.Write.{check_scale, write_call, ReadsBack}
-use Rattle.walk.specs.declared.Walked.{Walked}
-use Rattle.walk.specs.declared.Walked.TheVariants as walked
 use Rattle.walk.specs.Numbers.{walked_numbers}
 use Rattle.walk.specs.Walk.{Promise}
 
 -- The answer of a call that writes into a buffer in 01's numbers, as it is told: its number, and its place, which of an answer is the length of what
 -- is written; then the buffer.
-abbrev pub written_told : Written → ℕ × ℕ
+abbrev pub written_told : Result ℕ Refusal → ℕ × ℕ
 written_told w = let n = written_numbers w in (n.number, n.place)
 
-abbrev pub buffer_told : Written × List ℕ → ℕ × ℕ × List ℕ
+abbrev pub buffer_told : Result ℕ Refusal × List ℕ → ℕ × ℕ × List ℕ
 buffer_told a = let n = written_told a.0 in (n.0, n.1, a.1)
 
 -- What 28 numbers ask to be written into a buffer. "22: no such opcode" where the first is no opcode's; what is checked before it comes before it.
-abbrev pub no_opcode : Check → Written
-no_opcode Ok = written.Refused (refusal_at 22 0)
-no_opcode (Refused r) = written.Refused r
+abbrev pub no_opcode : Check → Result ℕ Refusal
+no_opcode (Ok tt) = Err (refusal_at fault.WrongOpcode 0)
+no_opcode (Err r) = Err r
 
-unfoldable pub write_numbers : List ℕ → List ℕ → List ℕ → List ℕ → List ℕ → Written × List ℕ
+unfoldable pub write_numbers : List ℕ → List ℕ → List ℕ → List ℕ → List ℕ → Result ℕ Refusal × List ℕ
 write_numbers ops types layout ns out =
     cond (opcode_known ns) (write_call ops types layout (told_instr ns) out) (no_opcode (check_scale ops types layout (told_instr ns).scale), out)
 
 -- "Decoding what was written gives back scale, opcode and operands": where 0 is told, of the place and the buffer
 abbrev pub WriteReads : List ℕ → List ℕ → List ℕ → List ℕ → ℕ → ℕ → List ℕ → Type 0
-WriteReads ops types layout ns number place o' = number ≡ 0 → ReadsBack ops types layout (told_instr ns) (written.Done place) o'
+WriteReads ops types layout ns number place o' = number ≡ 0 → ReadsBack ops types layout (told_instr ns) (Ok place) o'
 
 -- the steps that a walk check's numbers tell: their value, or 0 where they have none
 abbrev pub steps_in : List ℤ → ℕ
@@ -45,22 +43,22 @@ steps_in [] = 0
 steps_in (v ∷ vs) = nat_abs v
 
 -- The answer of a walk check in 01's numbers, as it is told: its number, the steps, the place; then the marks.
-abbrev pub walk_numbers : Walked → ℕ × ℕ × ℕ
+abbrev pub walk_numbers : Result Walked Refusal → ℕ × ℕ × ℕ
 walk_numbers w = let n = walked_numbers w in (n.number, steps_in n.values, n.place)
 
-abbrev pub walk_told : Walked × List ℕ → ℕ × ℕ × ℕ × List ℕ
+abbrev pub walk_told : Result Walked Refusal × List ℕ → ℕ × ℕ × ℕ × List ℕ
 walk_told a = let n = walk_numbers a.0 in (n.0, n.1, n.2, a.1)
 
 -- Demand 3 in the numbers that are told: 0 means that no walk ever leaves; 254, that a shortest walk that leaves has so many steps, from that place;
 -- and of the marks what they mean after either. Any other number is a refusal's, 1 to 26.
 pub record WalkPromise (s : Source) (M : List ℕ) (number steps place : ℕ) : Type 0 where
-  pub closed : number ≡ 0 → Promise s walked.Closed M
-  pub leaves : number ≡ 254 → Promise s (walked.Leaves steps place) M
+  pub closed : number ≡ 0 → Promise s (Ok walked.Closed) M
+  pub leaves : number ≡ 254 → Promise s (Ok (walked.Leaves steps place)) M
   pub refused : (number ≡ 0 → ⊥) → (number ≡ 254 → ⊥) → number ≤ 26
 
 -- whether an object is lent for lent code, 0 if not, and its number
-abbrev pub pool_object : ℕ → ℕ → PoolObject
-pool_object lent n = cond (eqb lent 0) pool-object.Nothing (pool-object.Object n)
+abbrev pub pool_object : ℕ → ℕ → Option ℕ
+pool_object lent n = cond (eqb lent 0) None (Some n)
 
 -- k values: those of an answer, and 0 for one that is not there
 abbrev pub values_told : ℕ → List ℤ → List ℕ

@@ -16,10 +16,8 @@ ghost use Rattle.walk.specs.Walk.{Given, given_of, object_source, object_with, w
 ghost use Rattle.capi.specs.Told.{written_told, buffer_told, no_opcode, write_numbers, WriteReads, walk_numbers, walk_told, WalkPromise, pool_object, numbers_told, decode_told};
 
 use decoder::Outcome;
-use function::PoolObject;
 use jumps::{EntryAnswer, TargetAnswer};
-use refusal::{Check, Refusal};
-use text::Written;
+use refusal::{Fault, Refusal};
 use walk::Walked;
 
 // The listing of an object into `out`: its length in `place`, or the refusal's place, with `out` as it was.
@@ -87,30 +85,28 @@ pub fn jscd_write(
 }
 
 // The refusal of an opcode that no table has, behind what is checked before it.
-fn no_opcode(check: Check) -> Written
+fn no_opcode(check: Result<(), Refusal>) -> Result<usize, Refusal>
     ensures { result ≡ no_opcode check }
 {
-    match check {
-        Check::Refused(refusal) => Written::Refused(refusal),
-        Check::Ok => Written::Refused(Refusal {
-            number: refusal::WRONG_OPCODE,
-            place: 0,
-        }),
-    }
+    check?;
+    Err(Refusal {
+        fault: Fault::WrongOpcode,
+        place: 0,
+    })
 }
 
 // The numbers of an answer of a call that writes into a buffer.
-fn tell_written(written: Written, place: &mut usize) -> u8
+fn tell_written(written: Result<usize, Refusal>, place: &mut usize) -> u8
     ensures { (result, place.new) ≡ written_told written }
 {
     match written {
-        Written::Done(n) => {
+        Ok(n) => {
             *place = n;
             0
         }
-        Written::Refused(r) => {
+        Err(r) => {
             *place = r.place;
-            r.number
+            r.fault.number()
         }
     }
 }
@@ -230,37 +226,33 @@ pub fn jscd_walk_code_with(
 }
 
 // The numbers of a walk check's answer.
-fn tell_walked(walked: Walked, steps: &mut usize, place: &mut usize) -> u8
+fn tell_walked(walked: Result<Walked, Refusal>, steps: &mut usize, place: &mut usize) -> u8
     ensures { (result, steps.new, place.new) ≡ walk_numbers walked }
 {
     match walked {
-        Walked::Closed => {
+        Ok(Walked::Closed) => {
             *steps = 0;
             *place = 0;
             0
         }
-        Walked::Leaves(n, o) => {
+        Ok(Walked::Leaves(n, o)) => {
             *steps = n;
             *place = o;
             254
         }
-        Walked::Refused(r) => {
+        Err(r) => {
             *steps = 0;
             *place = r.place;
-            r.number
+            r.fault.number()
         }
     }
 }
 
 // The object whose pool lent code uses, if one is lent.
-fn pool_object(lent: u8, object: usize) -> PoolObject
+fn pool_object(lent: u8, object: usize) -> Option<usize>
     ensures { result ≡ pool_object lent object }
 {
-    if lent == 0 {
-        PoolObject::Nothing
-    } else {
-        PoolObject::Object(object)
-    }
+    if lent == 0 { None } else { Some(object) }
 }
 
 // The target of the jump at a place of lent code: `values` is 1 and the target, or 0 where there is none. 255: the place is the code's end.
@@ -343,7 +335,7 @@ fn tell_target(answer: TargetAnswer, at: usize, place: &mut usize, values: &mut 
         TargetAnswer::Refused(r) => {
             *place = r.place;
             *values = [0, 0];
-            r.number
+            r.fault.number()
         }
     }
 }
@@ -381,7 +373,7 @@ fn tell_entry(answer: EntryAnswer, at: usize, place: &mut usize, values: &mut [u
         EntryAnswer::Refused(r) => {
             *place = r.place;
             *values = [0, 0, 0];
-            r.number
+            r.fault.number()
         }
     }
 }
@@ -411,7 +403,7 @@ pub fn jscd_decode(
         }
         Outcome::Refused(r) => {
             *place = r.place;
-            r.number
+            r.fault.number()
         }
         Outcome::Done => {
             *place = instr.end;

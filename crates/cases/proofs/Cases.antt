@@ -26,7 +26,8 @@ use Rattle.steps.specs.Steps.{entries_steps, instr_steps, steps_at, walk_graph}
 use Rattle.jumps.specs.Jumps.{target_of, target_call}
 use Rattle.walk.specs.Walk.{walk_source, walk_lent_with}
 use Rattle.sample.specs.Sample.{padded, opcode, typed, opcodes, types, four, fours, layout}
-use Rattle.walk.specs.declared.Walked.TheVariants as walked-as
+use Rattle.std.specs.Prelude.{Ok}
+use Rattle.search.specs.declared.Walked.TheVariants as walked-as
 use Rattle.cases.specs.Rows.{told, asked, rows}
 use Rattle.cases.specs.Rows.Asked.{walks}
 use Rattle.cases.specs.Rows.Told.{walked}
@@ -41,7 +42,7 @@ unfolding told asked rows opcodes opcode typed types padded four fours layout ch
 cases = refl
 
 -- 02, Wish 4: empty code is closed, and no mark is written, whatever the mark buffer
-pub empty_cases : told (walks [] 0) ∷ told (walks [] 2) ∷ [] ≡ walked (walked-as.Closed, []) ∷ walked (walked-as.Closed, 7 ∷ 7 ∷ []) ∷ []
+pub empty_cases : told (walks [] 0) ∷ told (walks [] 2) ∷ [] ≡ walked (Ok walked-as.Closed, []) ∷ walked (Ok walked-as.Closed, 7 ∷ 7 ∷ []) ∷ []
 unfolding told opcodes opcode typed types padded four fours layout check_table whole_records within first_from name_ok opcode_fields flow_fits type_code size_fits size_good name_fits is_named
     type_names ranges range_of layout_of decode_one decode_at head_at first_marked read_parts parts_from width is_list kinds kind_of of_kind interpret le_at modulo wrap32
     signed line_by operands_by hex_byte hex_digit flat_map name_at decimal last_digits runtime_name param_name reg_name list_name operand_text instr_name target_call target_of

@@ -23,19 +23,21 @@ use Rattle.function.specs.Code.{switch_check}
 use Rattle.handlers.specs.Handlers.{handler_among, check_handlers}
 use Rattle.graph.specs.Graph.{is_start, exits, after, level, first_exit, finding, reached, marked, bits, mark_list}
 use Rattle.steps.specs.Steps.{entries_steps, instr_steps, steps_at, walk_graph}
-use Rattle.walk.specs.declared.Walked.{Walked}
+use Rattle.std.specs.Prelude.{None, Result, Ok, Err}
+use Rattle.refusal.specs.declared.Refusal.{Refusal}
+use Rattle.search.specs.declared.Walked.{Walked}
+use Rattle.refusal.specs.declared.Fault.TheVariants as fault
+use Rattle.search.specs.declared.Walked.TheVariants as walked
 use Rattle.walk.specs.Walk.{given_of, walk_source, walk_lent_with}
 use Rattle.sample.specs.Sample.{padded, opcode, typed, opcodes, types, four, fours, layout}
-use Rattle.function.specs.declared.PoolObject.TheVariants as object
-use Rattle.walk.specs.declared.Walked.TheVariants as walked
 
 -- the sample's table with this name and these bytes 50 to 53
 pub files : String → List ℕ → Files
 files name flow = record { opcodes = opcodes ++ opcode name 0 (11 ∷ []) flow; types = types; runtime = []; intrinsic = []; layout = layout; objects = []; slots = []; payload = [] }
 
 -- the walks of a code with handler records and three marks, which are sevens
-pub walks : String → List ℕ → List ℕ → List ℕ → Walked × List ℕ
-walks name flow code records = walk_lent_with (files name flow) (given_of (fours records)) object.Nothing code (replicate 3 7)
+pub walks : String → List ℕ → List ℕ → List ℕ → Result Walked Refusal × List ℕ
+walks name flow code records = walk_lent_with (files name flow) (given_of (fours records)) None code (replicate 3 7)
 
 -- to the Return at 2, and to the byte before it
 pub branch : List ℕ
@@ -46,7 +48,7 @@ bad = 0x0c ∷ 0x01 ∷ 0x0b ∷ []
 
 -- a jump whose name the list lacks is followed: it goes on or to its target, jumps only, or goes back
 pub followed : walks "JumpIfForInDone" (3 ∷ []) branch [] ∷ walks "JumpIfForInDone" (3 ∷ []) bad [] ∷ walks "JumpIfForInDone" (0 ∷ []) bad [] ∷ []
-    ≡ (walked.Closed, 1 ∷ 0 ∷ 1 ∷ []) ∷ (walked.Leaves 1 0, 1 ∷ 0 ∷ 0 ∷ []) ∷ (walked.Closed, 1 ∷ 0 ∷ 1 ∷ []) ∷ []
+    ≡ (Ok walked.Closed, 1 ∷ 0 ∷ 1 ∷ []) ∷ (Ok (walked.Leaves 1 0), 1 ∷ 0 ∷ 0 ∷ []) ∷ (Ok walked.Closed, 1 ∷ 0 ∷ 1 ∷ []) ∷ []
 unfolding walks files branch bad opcodes opcode typed types padded four fours layout check_table whole_records within first_from name_ok opcode_fields flow_fits type_code size_fits size_good
     name_fits is_named type_names ranges range_of layout_of decode_at head_at first_marked read_parts parts_from width is_list kinds kind_of of_kind interpret le_at modulo wrap32
     signed flow_kind flow_of is_return pool_elem operand_of index_of number_of distance_by jump_target jump_table table_by sized_by walk_lent_with walk_source list_from
@@ -55,7 +57,7 @@ followed = refl
 
 -- the bytes count, not the name: a JumpLoop that adds, an operand that there is not, a Return that goes on and has no handler, a name that ends and has one
 pub by_bytes : walks "JumpLoop" (3 ∷ []) branch [] ∷ walks "JumpLoop" (2 ∷ 0 ∷ 1 ∷ []) branch [] ∷ walks "Return" (0 ∷ []) branch (0 ∷ 1 ∷ 1 ∷ []) ∷ walks "Stop" (1 ∷ []) branch (0 ∷ 1 ∷ 2 ∷ []) ∷ []
-    ≡ (walked.Closed, 1 ∷ 0 ∷ 1 ∷ []) ∷ (walked.Leaves 1 0, 1 ∷ 0 ∷ 0 ∷ []) ∷ (walked.Closed, 1 ∷ 0 ∷ 1 ∷ []) ∷ (walked.Closed, 1 ∷ 0 ∷ 1 ∷ []) ∷ []
+    ≡ (Ok walked.Closed, 1 ∷ 0 ∷ 1 ∷ []) ∷ (Ok (walked.Leaves 1 0), 1 ∷ 0 ∷ 0 ∷ []) ∷ (Ok walked.Closed, 1 ∷ 0 ∷ 1 ∷ []) ∷ (Ok walked.Closed, 1 ∷ 0 ∷ 1 ∷ []) ∷ []
 unfolding walks files branch bad opcodes opcode typed types padded four fours layout check_table whole_records within first_from name_ok opcode_fields flow_fits type_code size_fits size_good
     name_fits is_named type_names ranges range_of layout_of decode_at head_at first_marked read_parts parts_from width is_list kinds kind_of of_kind interpret le_at modulo wrap32
     signed flow_kind flow_of is_return pool_elem operand_of index_of number_of distance_by jump_target jump_table table_by sized_by walk_lent_with walk_source list_from
@@ -64,8 +66,8 @@ by_bytes = refl
 
 -- 26 at record 12, for each byte; 3 before it in the same record
 pub rows_in_order : walks "Stop" (6 ∷ []) branch [] ∷ walks "Stop" (0 ∷ 2 ∷ []) branch [] ∷ walks "Stop" (0 ∷ 0 ∷ 8 ∷ []) branch [] ∷ walks "Stop" (0 ∷ 0 ∷ 0 ∷ 2 ∷ []) branch [] ∷ walks "Stop" (6 ∷ 0 ∷ 0 ∷ 0 ∷ 1 ∷ []) branch [] ∷ []
-    ≡ (walked.Refused (refusal_at 26 12), 7 ∷ 7 ∷ 7 ∷ []) ∷ (walked.Refused (refusal_at 26 12), 7 ∷ 7 ∷ 7 ∷ []) ∷ (walked.Refused (refusal_at 26 12), 7 ∷ 7 ∷ 7 ∷ []) ∷ (walked.Refused (refusal_at 26 12), 7 ∷ 7 ∷ 7 ∷ [])
-    ∷ (walked.Refused (refusal_at 3 12), 7 ∷ 7 ∷ 7 ∷ []) ∷ []
+    ≡ (Err (refusal_at fault.BadFlow 12), 7 ∷ 7 ∷ 7 ∷ []) ∷ (Err (refusal_at fault.BadFlow 12), 7 ∷ 7 ∷ 7 ∷ []) ∷ (Err (refusal_at fault.BadFlow 12), 7 ∷ 7 ∷ 7 ∷ []) ∷ (Err (refusal_at fault.BadFlow 12), 7 ∷ 7 ∷ 7 ∷ [])
+    ∷ (Err (refusal_at fault.BadOpcode 12), 7 ∷ 7 ∷ 7 ∷ []) ∷ []
 unfolding walks files branch bad opcodes opcode typed types padded four fours layout check_table whole_records within first_from name_ok opcode_fields flow_fits type_code size_fits size_good
     name_fits is_named type_names ranges range_of layout_of decode_at head_at first_marked read_parts parts_from width is_list kinds kind_of of_kind interpret le_at modulo wrap32
     signed flow_kind flow_of is_return pool_elem operand_of index_of number_of distance_by jump_target jump_table table_by sized_by walk_lent_with walk_source list_from

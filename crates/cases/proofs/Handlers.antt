@@ -22,11 +22,13 @@ use Rattle.function.specs.Code.{switch_check}
 use Rattle.handlers.specs.Handlers.{handler_among, check_handlers}
 use Rattle.graph.specs.Graph.{is_start, exits, after, level, first_exit, finding, reached, marked, bits, mark_list}
 use Rattle.steps.specs.Steps.{entries_steps, instr_steps, steps_at, walk_graph}
-use Rattle.walk.specs.declared.Walked.{Walked}
+use Rattle.std.specs.Prelude.{None, Result, Ok, Err}
+use Rattle.refusal.specs.declared.Refusal.{Refusal}
+use Rattle.search.specs.declared.Walked.{Walked}
+use Rattle.refusal.specs.declared.Fault.TheVariants as fault
+use Rattle.search.specs.declared.Walked.TheVariants as walked
 use Rattle.walk.specs.Walk.{given_of, walk_source, walk_lent_with}
 use Rattle.sample.specs.Sample.{padded, opcode, typed, opcodes, types, four, fours, layout}
-use Rattle.function.specs.declared.PoolObject.TheVariants as object
-use Rattle.walk.specs.declared.Walked.TheVariants as walked
 
 pub thrown : List ℕ
 thrown = opcodes ++ opcode "Throw" 0 [] (1 ∷ [])
@@ -35,8 +37,8 @@ pub files : Files
 files = record { opcodes = thrown; types = types; runtime = []; intrinsic = []; layout = layout; objects = []; slots = []; payload = [] }
 
 -- the walks of a code with records, each start, end and handler offset, and so many marks, which are sevens
-pub walks : List ℕ → List ℕ → ℕ → Walked × List ℕ
-walks code records marks = walk_lent_with files (given_of (fours records)) object.Nothing code (replicate marks 7)
+pub walks : List ℕ → List ℕ → ℕ → Result Walked Refusal × List ℕ
+walks code records marks = walk_lent_with files (given_of (fours records)) None code (replicate marks 7)
 
 -- a conditional jump to the Return at 2
 pub branch : List ℕ
@@ -48,7 +50,7 @@ wide = 0x00 ∷ 0x05 ∷ 0x03 ∷ 0x00 ∷ 0x02 ∷ []
 
 -- a handler where no instruction starts; of two records that hold the jump the last one
 pub last_record : walks branch (0 ∷ 2 ∷ 1 ∷ []) 3 ∷ walks branch (0 ∷ 2 ∷ 1 ∷ 0 ∷ 3 ∷ 2 ∷ []) 4 ∷ []
-    ≡ (walked.Leaves 1 0, 1 ∷ 0 ∷ 0 ∷ []) ∷ (walked.Closed, 1 ∷ 0 ∷ 1 ∷ 7 ∷ []) ∷ []
+    ≡ (Ok (walked.Leaves 1 0), 1 ∷ 0 ∷ 0 ∷ []) ∷ (Ok walked.Closed, 1 ∷ 0 ∷ 1 ∷ 7 ∷ []) ∷ []
 unfolding walks branch wide files thrown opcodes opcode typed types padded four fours layout check_table whole_records within first_from name_ok opcode_fields flow_fits type_code size_fits size_good
     name_fits is_named type_names ranges range_of layout_of decode_at head_at first_marked read_parts parts_from width is_list kinds kind_of of_kind interpret le_at modulo wrap32
     signed flow_kind flow_of is_return pool_elem operand_of index_of number_of distance_by jump_target jump_table table_by sized_by walk_lent_with walk_source list_from
@@ -57,7 +59,7 @@ last_record = refl
 
 -- a Return has no handler; a Throw without and with one
 pub two_names : walks branch (2 ∷ 3 ∷ 1 ∷ []) 3 ∷ walks (0x0c ∷ 0x0b ∷ []) [] 2 ∷ walks (0x0c ∷ 0x0b ∷ []) (0 ∷ 1 ∷ 1 ∷ []) 2 ∷ []
-    ≡ (walked.Closed, 1 ∷ 0 ∷ 1 ∷ []) ∷ (walked.Closed, 1 ∷ 0 ∷ []) ∷ (walked.Closed, 1 ∷ 1 ∷ []) ∷ []
+    ≡ (Ok walked.Closed, 1 ∷ 0 ∷ 1 ∷ []) ∷ (Ok walked.Closed, 1 ∷ 0 ∷ []) ∷ (Ok walked.Closed, 1 ∷ 1 ∷ []) ∷ []
 unfolding walks branch wide files thrown opcodes opcode typed types padded four fours layout check_table whole_records within first_from name_ok opcode_fields flow_fits type_code size_fits size_good
     name_fits is_named type_names ranges range_of layout_of decode_at head_at first_marked read_parts parts_from width is_list kinds kind_of of_kind interpret le_at modulo wrap32
     signed flow_kind flow_of is_return pool_elem operand_of index_of number_of distance_by jump_target jump_table table_by sized_by walk_lent_with walk_source list_from
@@ -66,7 +68,7 @@ two_names = refl
 
 -- a range of the byte behind a prefix holds nothing, one of the prefix holds the instruction
 pub prefix_counts : walks wide (1 ∷ 2 ∷ 1 ∷ []) 5 ∷ walks wide (0 ∷ 1 ∷ 1 ∷ []) 5 ∷ []
-    ≡ (walked.Leaves 2 4, 1 ∷ 0 ∷ 0 ∷ 0 ∷ 1 ∷ []) ∷ (walked.Leaves 1 0, 1 ∷ 0 ∷ 0 ∷ 0 ∷ 0 ∷ []) ∷ []
+    ≡ (Ok (walked.Leaves 2 4), 1 ∷ 0 ∷ 0 ∷ 0 ∷ 1 ∷ []) ∷ (Ok (walked.Leaves 1 0), 1 ∷ 0 ∷ 0 ∷ 0 ∷ 0 ∷ []) ∷ []
 unfolding walks branch wide files thrown opcodes opcode typed types padded four fours layout check_table whole_records within first_from name_ok opcode_fields flow_fits type_code size_fits size_good
     name_fits is_named type_names ranges range_of layout_of decode_at head_at first_marked read_parts parts_from width is_list kinds kind_of of_kind interpret le_at modulo wrap32
     signed flow_kind flow_of is_return pool_elem operand_of index_of number_of distance_by jump_target jump_table table_by sized_by walk_lent_with walk_source list_from
@@ -75,7 +77,7 @@ prefix_counts = refl
 
 -- 25 at the second record; 24; 18 before 24; 25 on empty code
 pub rows_in_order : walks branch (0 ∷ 2 ∷ 2 ∷ 2 ∷ 4 ∷ 0 ∷ []) 3 ∷ walks branch (0 ∷ 2 ∷ []) 3 ∷ walks branch (0 ∷ 2 ∷ []) 2 ∷ walks [] (0 ∷ 0 ∷ 0 ∷ []) 1 ∷ []
-    ≡ (walked.Refused (refusal_at 25 1), 7 ∷ 7 ∷ 7 ∷ []) ∷ (walked.Refused (refusal_at 24 0), 7 ∷ 7 ∷ 7 ∷ []) ∷ (walked.Refused (refusal_at 18 0), 7 ∷ 7 ∷ []) ∷ (walked.Refused (refusal_at 25 0), 7 ∷ []) ∷ []
+    ≡ (Err (refusal_at fault.BadHandler 1), 7 ∷ 7 ∷ 7 ∷ []) ∷ (Err (refusal_at fault.HandlersSize 0), 7 ∷ 7 ∷ 7 ∷ []) ∷ (Err (refusal_at fault.ShortMarks 0), 7 ∷ 7 ∷ []) ∷ (Err (refusal_at fault.BadHandler 0), 7 ∷ []) ∷ []
 unfolding walks branch wide files thrown opcodes opcode typed types padded four fours layout check_table whole_records within first_from name_ok opcode_fields flow_fits type_code size_fits size_good
     name_fits is_named type_names ranges range_of layout_of decode_at head_at first_marked read_parts parts_from width is_list kinds kind_of of_kind interpret le_at modulo wrap32
     signed flow_kind flow_of is_return pool_elem operand_of index_of number_of distance_by jump_target jump_table table_by sized_by walk_lent_with walk_source list_from

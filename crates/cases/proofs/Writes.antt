@@ -8,8 +8,10 @@ use Rattle.laws.specs.Scan.{first_from, within}
 use Rattle.words.specs.Le.{le_at, le_bytes}
 use Rattle.words.specs.Signed.{modulo, wrap32, signed}
 use Rattle.refusal.specs.Check.{refusal_at}
-use Rattle.text.specs.declared.Written.{Written}
-use Rattle.text.specs.declared.Written.TheVariants.{Done, Refused}
+use Rattle.std.specs.Prelude.{Result, Ok, Err}
+use Rattle.refusal.specs.declared.Refusal.{Refusal}
+use Rattle.refusal.specs.declared.Fault.{Fault}
+use Rattle.refusal.specs.declared.Fault.TheVariants as fault
 use Rattle.tables.specs.Names.{name_ok, is_named}
 use Rattle.tables.specs.Records.{width, first_marked, type_names, name_fits, size_good, size_fits, fields_ok as opcode_fields, flow_fits, type_code}
 use Rattle.layout.specs.Layout.{ranges, range_of, layout_of}
@@ -23,11 +25,11 @@ use Rattle.writer.specs.Write.{same_operand, back_as, reads_back, operands_ok, s
 use Rattle.sample.specs.Sample.{padded, opcode, typed, opcodes, types, four, fours, layout}
 
 -- an opcode at a scale with operands, into n bytes of 7
-abbrev written : ℕ → ℕ → List Operand → ℕ → Written × List ℕ
+abbrev written : ℕ → ℕ → List Operand → ℕ → Result ℕ Refusal × List ℕ
 written scale op os n = write_call opcodes types layout (instr_of 0 op scale 0 os) (replicate n 7)
 
-abbrev sevens : ℕ → Written × List ℕ
-sevens number = (Refused (refusal_at number 0), replicate 5 7)
+abbrev sevens : Fault → Result ℕ Refusal × List ℕ
+sevens f = (Err (refusal_at f 0), replicate 5 7)
 
 -- `LdaSmi.Wide [384]`, `LdaSmi.ExtraWide [-1]`, `Star r0`, `CallRuntime [5], r0-r1`, `Wide.Wide`: behind a prefix any opcode can be written
 pub written-cases :
@@ -37,11 +39,11 @@ pub written-cases :
     ∷ written 1 10 (RuntimeId 5 ∷ RegList (pos 0) 2 ∷ []) 5
     ∷ written 2 0 [] 2
     ∷ [])
-    ≡ (Done 4, 0x00 ∷ 0x03 ∷ 0x80 ∷ 0x01 ∷ 7 ∷ [])
-    ∷ (Done 6, 0x01 ∷ 0x03 ∷ 0xff ∷ 0xff ∷ 0xff ∷ 0xff ∷ [])
-    ∷ (Done 2, 0x04 ∷ 0xfa ∷ 7 ∷ [])
-    ∷ (Done 5, 0x0a ∷ 0x05 ∷ 0x00 ∷ 0xfa ∷ 0x02 ∷ [])
-    ∷ (Done 2, 0x00 ∷ 0x00 ∷ [])
+    ≡ (Ok 4, 0x00 ∷ 0x03 ∷ 0x80 ∷ 0x01 ∷ 7 ∷ [])
+    ∷ (Ok 6, 0x01 ∷ 0x03 ∷ 0xff ∷ 0xff ∷ 0xff ∷ 0xff ∷ [])
+    ∷ (Ok 2, 0x04 ∷ 0xfa ∷ 7 ∷ [])
+    ∷ (Ok 5, 0x0a ∷ 0x05 ∷ 0x00 ∷ 0xfa ∷ 0x02 ∷ [])
+    ∷ (Ok 2, 0x00 ∷ 0x00 ∷ [])
     ∷ []
 unfolding opcodes opcode typed types padded four fours layout check_table whole_records within first_from name_ok opcode_fields flow_fits type_code size_fits size_good name_fits is_named type_names ranges range_of
     layout_of first_marked width is_list kinds kind_of of_kind interpret modulo wrap32 signed le_at le_bytes operand_bytes bytes_by head_bytes instr_bytes same_operand back_as reads_back
@@ -62,7 +64,8 @@ pub refused-cases :
     ∷ written 1 4 (Nothing ∷ []) 5
     ∷ written 4 3 (Imm (pos 1) ∷ []) 5
     ∷ [])
-    ≡ sevens 21 ∷ sevens 22 ∷ sevens 22 ∷ sevens 22 ∷ sevens 23 ∷ sevens 23 ∷ sevens 23 ∷ sevens 23 ∷ sevens 23 ∷ sevens 17 ∷ []
+    ≡ sevens fault.WrongScale ∷ sevens fault.WrongOpcode ∷ sevens fault.WrongOpcode ∷ sevens fault.WrongOpcode
+    ∷ sevens fault.WrongOperands ∷ sevens fault.WrongOperands ∷ sevens fault.WrongOperands ∷ sevens fault.WrongOperands ∷ sevens fault.WrongOperands ∷ sevens fault.ShortOutput ∷ []
 unfolding opcodes opcode typed types padded four fours layout check_table whole_records within first_from name_ok opcode_fields flow_fits type_code size_fits size_good name_fits is_named type_names ranges range_of
     layout_of first_marked width is_list kinds kind_of of_kind interpret modulo wrap32 signed le_at le_bytes operand_bytes bytes_by head_bytes instr_bytes same_operand back_as reads_back
     operands_ok scale_ok opcode_fits write_call

@@ -1,5 +1,5 @@
 -- 01's rows P1 to P12, and what the definitions that the public contracts cite say of each.
-use Rattle.std.specs.Prelude.{ℕ, List, [], ◌∷◌, pos, replicate}
+use Rattle.std.specs.Prelude.{ℕ, List, [], ◌∷◌, pos, replicate, None, Result, Ok}
 use Rattle.laws.specs.Ascii.{ascii}
 use Rattle.layout.specs.Layout.{layout_of}
 use Rattle.decoder.specs.declared.Outcome.{Outcome}
@@ -10,13 +10,14 @@ use Rattle.bytecode.specs.Decode.{decode_one}
 use Rattle.lines.specs.Line.{View, line_text}
 use Rattle.targets.specs.Targets.{found}
 use Rattle.function.specs.Files.{Files}
-use Rattle.function.specs.declared.PoolObject.TheVariants as object
+use Rattle.refusal.specs.declared.Refusal.{Refusal}
+use Rattle.search.specs.declared.Walked.{Walked}
+use Rattle.refusal.specs.declared.Fault.TheVariants as fault
+use Rattle.search.specs.declared.Walked.TheVariants as walked-as
 use Rattle.jumps.specs.declared.TargetAnswer.{TargetAnswer}
 use Rattle.jumps.specs.declared.TargetAnswer.TheVariants as target-answer
 use Rattle.function.specs.Pool.{lent_pool, lent_elem}
 use Rattle.jumps.specs.Jumps.{target_call}
-use Rattle.walk.specs.declared.Walked.{Walked}
-use Rattle.walk.specs.declared.Walked.TheVariants as walked-as
 use Rattle.walk.specs.Walk.{walk_lent}
 use Rattle.sample.specs.Sample.{opcodes, types, layout}
 use Rattle.flow.specs.Opcodes.{opcodes_of}
@@ -35,7 +36,7 @@ pub data Told : Type 0 where
   decoded : Decoded → Told
   line : Outcome → List ℕ → Told
   target : TargetAnswer → Told
-  walked : Walked × List ℕ → Told
+  walked : Result Walked Refusal × List ℕ → Told
 
 -- "No runtime names, and no pool unless named"
 abbrev pub files : Files
@@ -49,15 +50,15 @@ view code = record {
   names = record { types = types; runtime = []; intrinsic = [] };
   frame = (layout_of layout).frame;
   params = pos 1;
-  pooled = found (lent_pool files object.Nothing);
-  elem = lent_elem files object.Nothing;
+  pooled = found (lent_pool files None);
+  elem = lent_elem files None;
 }
 
 unfoldable pub told : Asked → Told
 told (decodes code at) = decoded (decode_one opcodes types layout code at)
 told (lists code) = let d = decode_one opcodes types layout code 0 in line d.outcome (line_text (view code) d.instr)
-told (jumps code) = target (target_call files object.Nothing code 0)
-told (walks code marks) = walked (walk_lent files object.Nothing code (replicate marks 7))
+told (jumps code) = target (target_call files None code 0)
+told (walks code marks) = walked (walk_lent files None code (replicate marks 7))
 
 -- P1 to P12
 unfoldable pub asked : List Asked
@@ -83,12 +84,12 @@ rows =
     ∷ line Outcome.Done (ascii "           @    0 : 03 ff              LdaSmi [-1]\n")
     ∷ line Outcome.Done (ascii "           @    0 : 00 03 80 01        LdaSmi.Wide [384]\n")
     ∷ line Outcome.Done (ascii "           @    0 : 01 03 00 00 00 80  LdaSmi.ExtraWide [-2147483648]\n")
-    ∷ decoded (refused_at 12 1)
-    ∷ decoded (refused_at 13 0)
+    ∷ decoded (refused_at fault.EndsAfterExtraWide 1)
+    ∷ decoded (refused_at fault.NoOpcode 0)
     ∷ line Outcome.Done (ascii "           @    0 : 0a 05 00 fa 02     CallRuntime [5], r0-r1\n")
-    ∷ decoded (refused_at 15 4)
+    ∷ decoded (refused_at fault.EndsInCount 4)
     ∷ target (target-answer.At 18446744073709551613)
-    ∷ walked (walked-as.Leaves 1 0, 1 ∷ 0 ∷ 7 ∷ 7 ∷ [])
-    ∷ walked (walked-as.Leaves 2 4, 1 ∷ 0 ∷ 0 ∷ 0 ∷ 1 ∷ 7 ∷ 7 ∷ [])
-    ∷ walked (walked-as.Closed, 1 ∷ 0 ∷ 1 ∷ 7 ∷ 7 ∷ [])
+    ∷ walked (Ok (walked-as.Leaves 1 0), 1 ∷ 0 ∷ 7 ∷ 7 ∷ [])
+    ∷ walked (Ok (walked-as.Leaves 2 4), 1 ∷ 0 ∷ 0 ∷ 0 ∷ 1 ∷ 7 ∷ 7 ∷ [])
+    ∷ walked (Ok walked-as.Closed, 1 ∷ 0 ∷ 1 ∷ 7 ∷ 7 ∷ [])
     ∷ []

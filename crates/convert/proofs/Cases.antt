@@ -11,6 +11,7 @@ use Rattle.tables.specs.mirror.Rows.{filled, rows}
 use Rattle.convert.specs.Names.{flow_names, flows, flow_number, flow_by}
 use Rattle.convert.specs.Records.{joined}
 use Rattle.convert.specs.Convert.{new_file, other_flow}
+use Rattle.refusal.specs.declared.Fault.TheVariants as fault
 
 -- records of 64 bytes with a name and no operands; `JumpIf` is no name of the list
 pub table : List ℕ
@@ -31,6 +32,6 @@ unfolding fours table rows filled new_file joined flow_number first_from is_name
 each_class = refl
 
 -- a switch whose byte 51 is 1 is a way back for which the name would give other bytes
-pub switch_from_the_pool : first_bad 27 (other_flow (set (new_file table) (8 * 72 + 51) 1)) 11 ≡ refused 27 8
+pub switch_from_the_pool : first_bad fault.OtherFlow (other_flow (set (new_file table) (8 * 72 + 51) 1)) 11 ≡ refused fault.OtherFlow 8
 unfolding table rows filled new_file joined flow_number first_from is_named flow_names flow_by flows other_flow
 switch_from_the_pool = refl

@@ -8,10 +8,11 @@ use lib.ListN.{length, take, drop}
 use Rattle.laws.specs.Scan.{first_from}
 use Rattle.laws.proofs.Scan.{first-here, first_next, first_end}
 use Rattle.refusal.specs.declared.Refusal.{Refusal}
-use Rattle.refusal.specs.declared.Check.{Check}
-use Rattle.refusal.specs.declared.Check.TheVariants.{Ok, Refused}
-use Rattle.refusal.specs.Check.{refusal_at, first_refusal, at_record, first_bad, guarded_on}
-use Rattle.text.specs.declared.Written.{Written}
+use Rattle.std.specs.Prelude.{Result, Ok, Err}
+use Rattle.refusal.specs.Check.{Check}
+use Rattle.refusal.specs.declared.Fault.{Fault}
+use Rattle.refusal.specs.declared.Fault.TheVariants.{ShortOutput}
+use Rattle.refusal.specs.Check.{refusal_at, at_record, first_bad, guarded_on}
 use Rattle.text.specs.Put.{Put}
 use Rattle.text.specs.Written.{put_text}
 use Rattle.text.specs.mirror.Written.{WrittenBy}
@@ -32,30 +33,24 @@ pub fields_put : {o o' : List ℕ} {p r w : ℕ} (s : List ℕ) (from : ℕ) →
 fields_put s from put e = rw e at put
 
 -- ---- the first bad record, as a loop that has passed the records below k finds it
-module _ (number : ℕ) (bad : ℕ → Bool) (n k : ℕ) (passed : first_from bad 0 n ≡ first_from bad k (n - k)) where
-  pub bad_here : k < n → bad k ≡ true → at_record number k n ≡ first_bad number bad n
+module _ (fault : Fault) (bad : ℕ → Bool) (n k : ℕ) (passed : first_from bad 0 n ≡ first_from bad k (n - k)) where
+  pub bad_here : k < n → bad k ≡ true → at_record fault k n ≡ first_bad fault bad n
   bad_here l h = rw (passed ∙ first-here bad k n l h)
 
   pub bad_next : k < n → bad k ≡ false → first_from bad 0 n ≡ first_from bad (k + 1) (n - (k + 1))
   bad_next l h = passed ∙ first_next bad k n l h
 
-  pub bad_end : n ≤ k → Ok ≡ first_bad number bad n
+  pub bad_end : n ≤ k → Ok tt ≡ first_bad fault bad n
   bad_end l = rw (passed ∙ first_end bad k n l, le-ltb k n l)
 
 -- ---- a call by its check
-pub first-refused : {r : Refusal} (a b : Check) → a ≡ Refused r → Refused r ≡ first_refusal a b
-first-refused a b h = rw h
-
-pub first_passed : (a b : Check) → a ≡ Ok → b ≡ first_refusal a b
-first_passed a b h = rw h
-
-module _ (check : Check) (o : List ℕ) (answer : Written × List ℕ) where
-  pub call_refused : {r : Refusal} → check ≡ Refused r → WrittenBy (guarded_on check Written.Refused o answer) (Written.Refused r) o
+module _ (check : Check) (o : List ℕ) (answer : Result ℕ Refusal × List ℕ) where
+  pub call_refused : {r : Refusal} → check ≡ Err r → WrittenBy (guarded_on check Err o answer) (Err r) o
   call_refused h = rw h (refl, refl)
 
-  pub call_written : {r : Written} {o' : List ℕ} → check ≡ Ok → WrittenBy answer r o' → WrittenBy (guarded_on check Written.Refused o answer) r o'
+  pub call_written : {r : Result ℕ Refusal} {o' : List ℕ} → check ≡ Ok tt → WrittenBy answer r o' → WrittenBy (guarded_on check Err o answer) r o'
   call_written h w = rw h w
 
 -- a text that does not fit
-pub written_short : (t o : List ℕ) → length o < length t → WrittenBy (put_text t o) (Written.Refused (refusal_at 17 0)) o
+pub written_short : (t o : List ℕ) → length o < length t → WrittenBy (put_text t o) (Err (refusal_at ShortOutput 0)) o
 written_short t o h = rw (lt-leb (length t) (length o) h) (refl, refl)

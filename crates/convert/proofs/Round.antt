@@ -10,7 +10,9 @@ use lib.Dec.{leb, eqb}
 use lib.ListN.{length, get_or, take, drop, replicate, length-drop, length-replicate, get_or-replicate}
 use lib.Seq.{length-take-le, get_or-take, get_or-drop, get_or-append-add, drop-cons, take-add, drop-drop, ext_get_or}
 use Rattle.laws.proofs.Tests.{and_left, and_right}
-use Rattle.refusal.specs.declared.Check.TheVariants.{Ok}
+use Rattle.std.specs.Prelude.{Ok, Option, Some, None}
+use Rattle.refusal.specs.declared.Fault.{Fault}
+use Rattle.refusal.specs.declared.Fault.TheVariants as fault
 use Rattle.refusal.specs.Check.{first_bad}
 use Rattle.refusal.proofs.Laws.{or_left, or_right}
 use Rattle.text.specs.Written.{put_text}
@@ -57,15 +59,15 @@ unfolding flow_by flows low_firsts
 first_low k = low_at flows refl k
 
 -- ---- what the check of a record says, and what it asks
-old_says : (a b : Bool) → ◌≡◌ {A = ℕ} (cond (a && b) 0 3) 0 → (a ≡ true) × (b ≡ true)
+old_says : (a b : Bool) → ◌≡◌ {A = Option Fault} (cond (a && b) None (Some fault.BadOpcode)) None → (a ≡ true) × (b ≡ true)
 old_says true true h = (refl, refl)
-old_says true false h = absurd (omega arith)
-old_says false b h = absurd (omega arith)
+old_says true false h = cc
+old_says false b h = cc
 
-new_says : (a b c : Bool) → ◌≡◌ {A = ℕ} (cond (a && b) (cond c 0 26) 3) 0 → (a ≡ true) × (b ≡ true)
+new_says : (a b c : Bool) → ◌≡◌ {A = Option Fault} (cond (a && b) (cond c None (Some fault.BadFlow)) (Some fault.BadOpcode)) None → (a ≡ true) × (b ≡ true)
 new_says true true c h = (refl, refl)
-new_says true false c h = absurd (omega arith)
-new_says false b c h = absurd (omega arith)
+new_says true false c h = cc
+new_says false b c h = cc
 
 -- ---- parts of a file by their bytes
 zero_part : (s : List ℕ) (at w : ℕ) → at + w ≤ length s → ((k : ℕ) → at ≤ k → k < at + w → get_or s k 0 ≡ 0) → take w (drop at s) ≡ replicate w 0
@@ -85,7 +87,7 @@ four_part s at h =
     ∙ rw (a, b, c)
 
 -- ---- to new
-module _ (ops tys : List ℕ) (ok : check_pair Old ops tys ≡ Ok) where
+module _ (ops tys : List ℕ) (ok : check_pair Old ops tys ≡ Ok tt) where
   good : Good Old ops tys
   good = pair_good Old ops tys ok
 
@@ -122,7 +124,7 @@ module _ (ops tys : List ℕ) (ok : check_pair Old ops tys ≡ Ok) where
       rw (a, b, c, d, le-leb _ _ (kind_low f.kind), le-leb _ _ (bit_low f.pool), le-leb _ _ (first_low (flow_number ops (k * 64))), le-leb _ _ (bit_low f.base))
 
   -- a converted file passes the check of its form, 26 with it
-  pub new_good : check_pair New (new_file ops) tys ≡ Ok
+  pub new_good : check_pair New (new_file ops) tys ≡ Ok tt
   new_good = good_pair New (new_file ops) tys (record {
     whole = as_many 64 72 1 256 (length ops) (length (new_file ops)) good.whole (omega (arith, new_length ops)) many;
     types_whole = good.types_whole;
@@ -144,9 +146,9 @@ module _ (ops tys : List ℕ) (ok : check_pair Old ops tys ≡ Ok) where
       let d : get_or (new_file ops) (k * 72 + 53) 0 ≡ bit f.base = flow_byte ops k 3 l (omega arith) in
       rw (same_flow (new_file ops) ops (k * 72) (k * 64) (new_fields ops k l), a, b, c, d, eq-eqb (kind_byte f.kind) _ refl, eq-eqb (bit f.pool) _ refl, eq-eqb f.first _ refl, eq-eqb (bit f.base) _ refl)
 
-  pub back_good : check_back (new_file ops) tys ≡ Ok
+  pub back_good : check_back (new_file ops) tys ≡ Ok tt
   unfolding check_back
-  back_good = rw (new_good, all_good 27 (other_flow (new_file ops)) (length (new_file ops) / 72) (λ k l. no_other k (omega (arith, many))))
+  back_good = rw (new_good, all_good fault.OtherFlow (other_flow (new_file ops)) (length (new_file ops) / 72) (λ k l. no_other k (omega (arith, many))))
 
   -- old to new to old
   pub old_new_old : old_file (new_file ops) ≡ ops
@@ -165,14 +167,14 @@ module _ (ops tys : List ℕ) (ok : check_pair Old ops tys ≡ Ok) where
   back_answers out = rw (back_good, old_new_old)
 
 -- ---- and back
-module _ (ops tys : List ℕ) (ok : check_back ops tys ≡ Ok) where
+module _ (ops tys : List ℕ) (ok : check_back ops tys ≡ Ok tt) where
   table : Good New ops tys
   unfolding check_back
-  table = pair_good New ops tys (or_left (check_pair New ops tys) (first_bad 27 (other_flow ops) (length ops / 72)) ok)
+  table = pair_good New ops tys (or_left (check_pair New ops tys) (first_bad fault.OtherFlow (other_flow ops) (length ops / 72)) ok)
 
   named : (k : ℕ) → k < length ops / 72 → other_flow ops k ≡ false
   unfolding check_back
-  named = none_bad 27 (other_flow ops) (length ops / 72) (or_right (check_pair New ops tys) (first_bad 27 (other_flow ops) (length ops / 72)) ok)
+  named = none_bad fault.OtherFlow (other_flow ops) (length ops / 72) (or_right (check_pair New ops tys) (first_bad fault.OtherFlow (other_flow ops) (length ops / 72)) ok)
 
   abbrev m : ℕ
   m = length ops / 72
@@ -196,7 +198,7 @@ module _ (ops tys : List ℕ) (ok : check_back ops tys ≡ Ok) where
           rw e (old_zero ops k i l (omega arith) ∙ get_or-replicate 14 i 0 0 (omega arith))
 
   -- what is converted back passes 01's check
-  pub old_good : check_pair Old (old_file ops) tys ≡ Ok
+  pub old_good : check_pair Old (old_file ops) tys ≡ Ok tt
   old_good = good_pair Old (old_file ops) tys (record {
     whole = as_many 72 64 1 256 (length ops) (length (old_file ops)) table.whole (omega (arith, old_length ops)) few;
     types_whole = table.types_whole;

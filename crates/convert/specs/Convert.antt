@@ -1,9 +1,10 @@
 -- 02, Wish 6: "Add conversion from 64-byte records, filled from document 01's names, unused bytes 0, and back."
 use Rattle.std.specs.Prelude.{ℕ, ◌*◌, ◌/◌, Bool, cond, not, ◌&&◌, List, [], ◌∷◌, ◌++◌, eqb, length, take, drop, replicate}
-use Rattle.refusal.specs.declared.Check.{Check}
+use Rattle.std.specs.Prelude.{Result, Err}
+use Rattle.refusal.specs.declared.Refusal.{Refusal}
+use Rattle.refusal.specs.Check.{Check}
+use Rattle.refusal.specs.declared.Fault.TheVariants as fault
 use Rattle.refusal.specs.Check.{first_refusal, first_bad, guarded_on}
-use Rattle.text.specs.declared.Written.{Written}
-use Rattle.text.specs.declared.Written.TheVariants.{Refused}
 use Rattle.text.specs.Written.{put_text}
 use Rattle.tables.specs.declared.Form.TheVariants.{Old, New}
 use Rattle.tables.specs.Records.{opcode_count, opcode_start, op_byte, old_size}
@@ -45,8 +46,8 @@ new_record ops k = fields ops (k * old_size) ++ flow_bytes (named_flow ops (k * 
 unfoldable pub new_file : List ℕ → List ℕ
 new_file ops = joined (new_record ops) 0 (length ops / old_size)
 
-unfoldable pub to_new_call : List ℕ → List ℕ → List ℕ → Written × List ℕ
-to_new_call ops tys out = guarded_on (check_pair Old ops tys) Refused out (put_text (new_file ops) out)
+unfoldable pub to_new_call : List ℕ → List ℕ → List ℕ → Result ℕ Refusal × List ℕ
+to_new_call ops tys out = guarded_on (check_pair Old ops tys) Err out (put_text (new_file ops) out)
 
 -- and back
 abbrev pub old_record : List ℕ → ℕ → List ℕ
@@ -63,7 +64,7 @@ other_flow ops k =
 
 -- "after all table checks"
 unfoldable pub check_back : List ℕ → List ℕ → Check
-check_back ops tys = first_refusal (check_pair New ops tys) (first_bad 27 (other_flow ops) (opcode_count ops))
+check_back ops tys = first_refusal (check_pair New ops tys) (first_bad fault.OtherFlow (other_flow ops) (opcode_count ops))
 
-unfoldable pub to_old_call : List ℕ → List ℕ → List ℕ → Written × List ℕ
-to_old_call ops tys out = guarded_on (check_back ops tys) Refused out (put_text (old_file ops) out)
+unfoldable pub to_old_call : List ℕ → List ℕ → List ℕ → Result ℕ Refusal × List ℕ
+to_old_call ops tys out = guarded_on (check_back ops tys) Err out (put_text (old_file ops) out)

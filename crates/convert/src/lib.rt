@@ -13,46 +13,45 @@ ghost use Rattle.tables.specs.Records.{size_as, old_size, opcode_size, opcode_co
 ghost use Rattle.convert.specs.Records.{joined};
 ghost use Rattle.convert.specs.mirror.Forms.{other, record_as};
 ghost use Rattle.convert.specs.Convert.{kind_byte, bit, flow_bytes, new_record, new_file, to_new_call, old_record, old_file, other_flow, check_back, to_old_call};
+ghost use Rattle.refusal.specs.Check.{Check};
+ghost use Rattle.refusal.specs.declared.Fault.TheVariants as fault;
 
 use flow::{Flow, Kind};
-use refusal::{Check, Refusal};
+use refusal::{Fault, Refusal};
 use tables::{Form, OLD_SIZE, OPCODE_SIZE};
-use text::Written;
 
 // What records of both forms have: name, mark, count and codes.
 const FIELDS: usize = 50;
 
 // The file with the flows by name, from the start of the buffer on. Rows 1 to 4 and 17; after a refusal the buffer is as it was.
-pub fn to_new(out: &mut [u8], opcodes: &[u8], types: &[u8]) -> Written
+#[tactic(auto, unfolding(crate::specs::Convert::to_new_call))]
+pub fn to_new(out: &mut [u8], opcodes: &[u8], types: &[u8]) -> Result<usize, Refusal>
     ensures { WrittenAs (to_new_call opcodes.now types.now out.old) result out.new }
 {
-    match tables::check_pair(opcodes, types, Form::Old) {
-        Check::Refused(refusal) => Written::Refused(refusal),
-        Check::Ok => write_new(out, opcodes),
-    }
+    tables::check_pair(opcodes, types, Form::Old)?;
+    write_new(out, opcodes)
 }
 
 // The file without the flows. Rows 1 to 4 with 26, then 27 and 17; after a refusal the buffer is as it was.
-pub fn to_old(out: &mut [u8], opcodes: &[u8], types: &[u8]) -> Written
+#[tactic(auto, unfolding(crate::specs::Convert::to_old_call))]
+pub fn to_old(out: &mut [u8], opcodes: &[u8], types: &[u8]) -> Result<usize, Refusal>
     ensures { WrittenAs (to_old_call opcodes.now types.now out.old) result out.new }
 {
-    match check_back(opcodes, types) {
-        Check::Refused(refusal) => Written::Refused(refusal),
-        Check::Ok => write_old(out, opcodes),
-    }
+    check_back(opcodes, types)?;
+    write_old(out, opcodes)
 }
 
 // To new.
 
-fn write_new(out: &mut [u8], opcodes: &[u8]) -> Written
+fn write_new(out: &mut [u8], opcodes: &[u8]) -> Result<usize, Refusal>
     ensures { WrittenBy (put_text (new_file opcodes.now) out.old) result out.new }
 {
     let n = opcodes.len() / OLD_SIZE;
     if n * OPCODE_SIZE <= out.len() {
-        Written::Done(put_records(out, opcodes, Form::New, n))
+        Ok(put_records(out, opcodes, Form::New, n))
     } else {
-        Written::Refused(Refusal {
-            number: refusal::SHORT_OUTPUT,
+        Err(Refusal {
+            fault: Fault::ShortOutput,
             place: 0,
         })
     }
@@ -81,6 +80,7 @@ fn put_flow(out: &mut [u8], at: usize, flow: Flow) -> usize
     text::put_byte(out, p, bit(flow.base))
 }
 
+// The file's numbers: a cast would hang on the order of Kind's lines.
 fn kind_byte(kind: Kind) -> u8
     ensures { result ≡ kind_byte kind }
 {
@@ -103,28 +103,25 @@ fn bit(b: bool) -> u8
 // And back.
 
 // Rows 1 to 4 with 26, then 27.
-fn check_back(opcodes: &[u8], types: &[u8]) -> Check
+#[tactic(auto, unfolding(crate::specs::Convert::check_back))]
+fn check_back(opcodes: &[u8], types: &[u8]) -> Result<(), Refusal>
     ensures { result ≡ check_back opcodes.now types.now }
 {
-    match tables::check_pair(opcodes, types, Form::New) {
-        Check::Refused(refusal) => Check::Refused(refusal),
-        Check::Ok => check_flows(opcodes),
-    }
+    tables::check_pair(opcodes, types, Form::New)?;
+    check_flows(opcodes)
 }
 
 // The first record whose name would give other bytes.
-fn check_flows(opcodes: &[u8]) -> Check
-    ensures { result ≡ first_bad 27 (other_flow opcodes.now) (opcode_count opcodes.now) }
+fn check_flows(opcodes: &[u8]) -> Result<(), Refusal>
+    ensures { result ≡ first_bad fault.OtherFlow (other_flow opcodes.now) (opcode_count opcodes.now) }
 {
     let n = tables::opcode_count(opcodes);
-    let mut k = 0;
-    while k < n {
+    for k in 0..n {
         if other_flow(opcodes, k) {
-            return refusal::at_record(refusal::OTHER_FLOW, k, n);
+            return refusal::at_record(Fault::OtherFlow, k, n);
         }
-        k += 1;
     }
-    Check::Ok
+    Ok(())
 }
 
 fn other_flow(opcodes: &[u8], k: usize) -> bool
@@ -146,15 +143,15 @@ fn other_flow(opcodes: &[u8], k: usize) -> bool
     opcodes[at + 53] != bit(flow.base)
 }
 
-fn write_old(out: &mut [u8], opcodes: &[u8]) -> Written
+fn write_old(out: &mut [u8], opcodes: &[u8]) -> Result<usize, Refusal>
     ensures { WrittenBy (put_text (old_file opcodes.now) out.old) result out.new }
 {
     let n = tables::opcode_count(opcodes);
     if n * OLD_SIZE <= out.len() {
-        Written::Done(put_records(out, opcodes, Form::Old, n))
+        Ok(put_records(out, opcodes, Form::Old, n))
     } else {
-        Written::Refused(Refusal {
-            number: refusal::SHORT_OUTPUT,
+        Err(Refusal {
+            fault: Fault::ShortOutput,
             place: 0,
         })
     }
@@ -179,10 +176,8 @@ fn put_records(out: &mut [u8], opcodes: &[u8], to: Form, n: usize) -> usize
     ensures { Put out.old 0 (joined (record_as to opcodes.now) 0 n) out.new result }
 {
     let mut at = 0;
-    let mut k = 0;
-    while k < n {
+    for k in 0..n {
         at = put_record(out, at, opcodes, to, k);
-        k += 1;
     }
     at
 }

@@ -8,11 +8,10 @@ ghost use Rattle.convert_files.specs.ConvertedBy.{converted_by};
 use refusal::Refusal;
 use std::rt::{Env, Files};
 use tables::Form;
-use text::Written;
 
 // The whole program, on its arguments: new or old, the opcodes and the types.
 pub fn run(rt: &(impl Files + Env + Print + Eprint)) {
-    let count = text::min(inputs::argument_count(rt), 255);
+    let count = inputs::argument_count(rt).min(255);
     run_on(rt, 1, count as u8);
 }
 
@@ -41,27 +40,25 @@ fn usage(rt: &impl Eprint) {
 fn run_by(rt: &(impl Files + Env + Print + Eprint), to: Form, from: u8) {
     let mut opcodes = [0u8; 18433];
     let mut types = [0u8; 2049];
-    let o = inputs::load_argument(rt, from as usize + 1, &mut opcodes);
-    if !o.good {
+    let Some(o) = inputs::load_argument(rt, from as usize + 1, &mut opcodes) else {
         return;
-    }
-    let t = inputs::load_argument(rt, from as usize + 2, &mut types);
-    if !t.good {
+    };
+    let Some(t) = inputs::load_argument(rt, from as usize + 2, &mut types) else {
         return;
-    }
-    print(rt, to, &opcodes[..o.size], &types[..t.size]);
+    };
+    print(rt, to, &opcodes[..o], &types[..t]);
 }
 
 fn print(rt: &(impl Print + Eprint), to: Form, opcodes: &[u8], types: &[u8]) {
     let mut out = [0u8; 18432];
     let written = converted(to, &mut out, opcodes, types);
     match written {
-        Written::Done(n) => print_file(rt, &out, n),
-        Written::Refused(r) => print_refusal(rt, r),
+        Ok(n) => print_file(rt, &out, n),
+        Err(r) => print_refusal(rt, r),
     }
 }
 
-fn converted(to: Form, out: &mut [u8], opcodes: &[u8], types: &[u8]) -> Written
+fn converted(to: Form, out: &mut [u8], opcodes: &[u8], types: &[u8]) -> Result<usize, Refusal>
     ensures { WrittenAs (converted_by to opcodes.now types.now out.old) result out.new }
 {
     match to {
@@ -77,7 +74,7 @@ fn print_file(rt: &(impl Print + Eprint), out: &[u8], n: usize) {
 }
 
 fn print_refusal(rt: &impl Eprint, r: Refusal) {
-    let number = r.number;
+    let number = r.fault.number();
     let place = r.place;
     let _ = eprintln!(rt; "refused {number} at {place}");
 }

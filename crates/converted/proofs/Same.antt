@@ -6,20 +6,15 @@ use mathlib.Core.List.{List}
 use mathlib.Core.Bool.{Bool}
 use lib.IntN.{ℤ}
 use lib.ListN.{length}
-use Rattle.text.specs.declared.Written.{Written}
+use Rattle.std.specs.Prelude.{Option}
 use Rattle.serializer.specs.declared.Elem.{Elem}
 use Rattle.flow.specs.Opcodes.{Opcodes, opcodes_of}
-use Rattle.decoder.specs.declared.Decoded.{Decoded}
-use Rattle.decoder.specs.Listed.{Listing, decodes, listed}
+use Rattle.decoder.specs.Listed.{decodes, listed}
 use Rattle.header.specs.declared.Header.{Header}
 use Rattle.lines.specs.Line.{View}
 use Rattle.disasm.specs.Listing.{list_view}
-use Rattle.jumps.specs.declared.TargetAnswer.{TargetAnswer}
-use Rattle.jumps.specs.declared.TableAnswer.{TableAnswer}
 use Rattle.jumps.specs.Jumps.{target_of, table_of}
-use Rattle.graph.specs.Graph.{Graph}
 use Rattle.steps.specs.Steps.{Source, walk_graph}
-use Rattle.walk.specs.declared.Walked.{Walked}
 use Rattle.walk.specs.Walk.{walk_source}
 use Rattle.convert.specs.Convert.{new_file}
 use Rattle.convert.specs.Old.{old_opcodes}
@@ -38,7 +33,7 @@ module _ (ops : List ℕ) (whole : length ops % 64 ≡ 0) where
   new_decodes code types rfs at = ap (λ (o : Opcodes). decodes code o types rfs at) (same_table ops whole)
 
   -- its target, and its table, which the entries are of
-  pub new_target : (el : ℕ → Elem) (code types : List ℕ) (rfs : ℤ) (at : ℕ) →
+  pub new_target : (el : ℕ → Option Elem) (code types : List ℕ) (rfs : ℤ) (at : ℕ) →
       target_of (opcodes_of (new_file ops)) el (decodes code (opcodes_of (new_file ops)) types rfs at) ≡ target_of (old_opcodes ops) el (decodes code (old_opcodes ops) types rfs at)
   new_target el code types rfs at = ap (λ (o : Opcodes). target_of o el (decodes code o types rfs at)) (same_table ops whole)
 

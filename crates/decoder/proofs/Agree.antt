@@ -22,15 +22,15 @@ use Rattle.operand.specs.mirror.Step.{is_counted, value_at, operand_at}
 use Rattle.operand.specs.declared.Operand.{Operand}
 use Rattle.operand.specs.declared.Step.TheVariants.{Skip, Short, Read}
 use Rattle.decoder.specs.declared.OperandRecord.{OperandRecord}
-use Rattle.decoder.specs.declared.Operands.{Operands}
 use Rattle.decoder.specs.declared.Outcome.{Outcome}
 use Rattle.prefix.specs.declared.Head.{Head}
 use Rattle.decoder.specs.declared.Decoded.{Decoded}
-use Rattle.decoder.specs.mirror.Steps.{start_ops, after_step, step_ops, run_ops, operands_at, of_ops, of_head, steps_at}
+use Rattle.decoder.specs.mirror.Steps.{Operands, start_ops, after_step, step_ops, run_ops, operands_at, of_ops, of_head, steps_at}
 use Rattle.decoder.specs.Decode.{blank}
 use Rattle.prefix.specs.Head.{head_at}
 use Rattle.decoder.proofs.Laws.{not_list}
-use Rattle.decoder.specs.Decode.{codes_from, operand_types, Part, own, count, parts_from, part_width, offset_of, operand_at_part, operands_from, is_short, short_number, record_of, records_of, instr_of, refused_at, read_parts, decode_head, decode_at}
+use Rattle.decoder.specs.Decode.{codes_from, operand_types, Part, own, count, parts_from, part_width, offset_of, operand_at_part, operands_from, is_short, short_fault, record_of, records_of, instr_of, refused_at, read_parts, decode_head, decode_at}
+use Rattle.refusal.specs.declared.Fault.TheVariants as fault
 
 -- ---- lists of operands and their records
 more_records : (n : ℕ) (os : List Operand) (o : Operand) → length os < n → set (records_of n os) (length os) (record_of o) ≡ records_of n (os ++ (o ∷ []))
@@ -67,9 +67,9 @@ module _ (code types : List ℕ) (scale : ℕ) (rfs : ℤ) where
       (cond (is_list t)
       (cond (leb (at + w + cw) (length code))
       (add (interpret t (value at w) w (value (at + w) cw % 2 ^ 32) rfs) (got true (at + w + cw) ts))
-      (bad (refusal_at 15 (at + w))))
+      (bad (refusal_at fault.EndsInCount (at + w))))
       (add (interpret t (value at w) w 0 rfs) (got false (at + w) ts)))
-      (bad (refusal_at 14 at)))
+      (bad (refusal_at fault.EndsInOperand at)))
 
   -- ---- the code's steps give that
   run_list : List ℕ → Operands → Operands
@@ -135,13 +135,13 @@ module _ (code types : List ℕ) (scale : ℕ) (rfs : ℤ) where
 
         go : (p q r u : Bool) → is_counted t before ≡ p → is_list t ≡ r
             → ((a b : ℕ) (l : List Operand) → length l + length ts ≤ 8 → of_ops start opcode scale (run_list ts (state a b l)) ≡ of_got l (got (is_list b) a ts))
-            → of_ops start opcode scale (run_list ts (after_step (cond p Skip (cond q (cond r (cond u (Read (interpret t (value_at code at w) w (value_at code (at + w) cw % 2 ^ 32) rfs) (at + w + cw)) (Short (refusal_at 15 (at + w)))) (Read (interpret t (value_at code at w) w 0 rfs) (at + w))) (Short (refusal_at 14 at)))) t (state at before os)))
-            ≡ of_got os (cond p (got false at ts) (cond q (cond r (cond u (add (interpret t (value at w) w (value (at + w) cw % 2 ^ 32) rfs) (got true (at + w + cw) ts)) (bad (refusal_at 15 (at + w)))) (add (interpret t (value at w) w 0 rfs) (got false (at + w) ts))) (bad (refusal_at 14 at))))
+            → of_ops start opcode scale (run_list ts (after_step (cond p Skip (cond q (cond r (cond u (Read (interpret t (value_at code at w) w (value_at code (at + w) cw % 2 ^ 32) rfs) (at + w + cw)) (Short (refusal_at fault.EndsInCount (at + w)))) (Read (interpret t (value_at code at w) w 0 rfs) (at + w))) (Short (refusal_at fault.EndsInOperand at)))) t (state at before os)))
+            ≡ of_got os (cond p (got false at ts) (cond q (cond r (cond u (add (interpret t (value at w) w (value (at + w) cw % 2 ^ 32) rfs) (got true (at + w + cw) ts)) (bad (refusal_at fault.EndsInCount (at + w)))) (add (interpret t (value at w) w 0 rfs) (got false (at + w) ts))) (bad (refusal_at fault.EndsInOperand at))))
         go true q r u e f rest =
             rest at t os (omega arith) ∙ ap (λ (x : Bool). of_got os (got x at ts)) (not_list t (eqb-true t 8 (and_left (eqb t 8) (is_list before) e)))
-        go false false r u e f rest = ap (of_ops start opcode scale) (run_stopped ts (refusal_at 14 at) t (state at before os))
+        go false false r u e f rest = ap (of_ops start opcode scale) (run_stopped ts (refusal_at fault.EndsInOperand at) t (state at before os))
         go false true false u e f rest = rw (value_is at t) (on (interpret t (value at w) w 0 rfs) (at + w) false f rest)
-        go false true true false e f rest = ap (of_ops start opcode scale) (run_stopped ts (refusal_at 15 (at + w)) t (state at before os))
+        go false true true false e f rest = ap (of_ops start opcode scale) (run_stopped ts (refusal_at fault.EndsInCount (at + w)) t (state at before os))
         go false true true true e f rest =
             rw (value_is at t, value_is (at + w) 8) (on (interpret t (value at w) w (value (at + w) cw % 2 ^ 32) rfs) (at + w + cw) true f rest)
 
@@ -149,7 +149,7 @@ module _ (code types : List ℕ) (scale : ℕ) (rfs : ℤ) where
     abbrev pub up_to : List Operand → ℕ → List Part → ℕ → Decoded
     up_to os at ps k =
         let ws = map (part_width types scale) ps in
-        cond (ltb k (length ps)) (refused_at (short_number (get_or ps k count)) (at + offset_of ws k))
+        cond (ltb k (length ps)) (refused_at (short_fault (get_or ps k count)) (at + offset_of ws k))
         (record { outcome = Outcome.Done; instr = instr_of start opcode scale (at + offset_of ws (length ps)) (os ++ operands_from code ws at rfs 0 ps) })
 
     abbrev pub first_short : ℕ → List Part → ℕ
@@ -208,7 +208,7 @@ module _ (code types : List ℕ) (scale : ℕ) (rfs : ℤ) where
             append_assoc os (head_ops at (w ∷ ws) p) (operands_from code ws (at + w) rfs 0 ps),
           )
 
-      part_short : length code < at + w → read_with os at (p ∷ ps) ≡ refused_at (short_number p) at
+      part_short : length code < at + w → read_with os at (p ∷ ps) ≡ refused_at (short_fault p) at
       unfolding read_with
       part_short h =
           let z : at + 0 ≡ at = omega arith in
@@ -245,7 +245,7 @@ module _ (code types : List ℕ) (scale : ℕ) (rfs : ℤ) where
 
         go : (p q r u : Bool) → leb (at + tw) (length code) ≡ q → is_list t ≡ r → leb (at + tw + cw) (length code) ≡ u
             → ((b : Bool) (a : ℕ) (l : List Operand) → of_got l (got b a ts) ≡ read_with l a (parts_from b ts))
-            → of_got os (cond p (got false at ts) (cond q (cond r (cond u (add (interpret t (value at tw) tw (value (at + tw) cw % 2 ^ 32) rfs) (got true (at + tw + cw) ts)) (bad (refusal_at 15 (at + tw)))) (add (interpret t (value at tw) tw 0 rfs) (got false (at + tw) ts))) (bad (refusal_at 14 at))))
+            → of_got os (cond p (got false at ts) (cond q (cond r (cond u (add (interpret t (value at tw) tw (value (at + tw) cw % 2 ^ 32) rfs) (got true (at + tw + cw) ts)) (bad (refusal_at fault.EndsInCount (at + tw)))) (add (interpret t (value at tw) tw 0 rfs) (got false (at + tw) ts))) (bad (refusal_at fault.EndsInOperand at))))
             ≡ read_with os at (cond p (parts_from false ts) (own t ∷ cond r (count ∷ parts_from true ts) (parts_from false ts)))
         go true q r u e f g rest = rest false at os
         go false false r u e f g rest = sym (part_short os at (own t) (cond r (count ∷ parts_from true ts) (parts_from false ts)) (leb-false (at + tw) (length code) e))

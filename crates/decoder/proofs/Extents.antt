@@ -15,29 +15,11 @@ use Rattle.tables.specs.Records.{width}
 use Rattle.operand.specs.Operand.{is_list}
 use Rattle.operand.specs.mirror.Step.{is_counted}
 use Rattle.flow.specs.Opcodes.{Opcodes}
-use Rattle.decoder.specs.declared.Extent.{Extent}
 use Rattle.decoder.specs.declared.Decoded.{Decoded}
 use Rattle.decoder.specs.declared.Outcome.{Outcome}
-use Rattle.prefix.specs.declared.Head.{Head}
-use Rattle.prefix.specs.Head.{head_at}
-use Rattle.decoder.specs.Decode.{codes_from, Part, own, count, parts_from, part_width, offset_of, is_short, read_parts, decode_head, decode_at}
+use Rattle.decoder.specs.Decode.{codes_from, Part, own, count, parts_from, part_width, offset_of, is_short, read_parts}
 use Rattle.decoder.proofs.Laws.{not_list}
 use Rattle.decoder.specs.mirror.Extent.{size_of, size_from, extent_of}
-
--- ---- one operand
-module _ (types : List ℕ) (scale before t : ℕ) where
-  pub size-counted : is_counted t before ≡ true → size_of types scale before t ≡ 0
-  unfolding size_of
-  size-counted e = rw e
-
-  module _ (own-size : is_counted t before ≡ false) where
-    pub size-plain : is_list t ≡ false → size_of types scale before t ≡ width types t scale
-    unfolding size_of
-    size-plain e = rw (own-size, e)
-
-    pub size_list : is_list t ≡ true → size_of types scale before t ≡ width types t scale + width types 8 scale
-    unfolding size_of
-    size_list e = rw (own-size, e)
 
 pub width_eight : (types : List ℕ) (t scale : ℕ) → width types t scale ≤ 8
 unfolding width
@@ -106,9 +88,3 @@ module _ (code types : List ℕ) (scale opcode start at : ℕ) where
   pub extent_any : (r s : ℤ) (ps : List Part) → extent_of (read_parts code types scale opcode r start at ps) ≡ extent_of (read_parts code types scale opcode s start at ps)
   unfolding read_parts
   extent_any r s ps = same_extent (ltb (first_from (is_short code (map (part_width types scale) ps) at) 0 (length ps)) (length ps)) _ _ _ _ refl refl
-
--- the extent by what stands at the place
-pub extent_by : {x : Extent} (code : List ℕ) (ops : Opcodes) (types : List ℕ) (start wide extra : ℕ) (rfs : ℤ) (h : Head) → h ≡ head_at code ops.many start wide extra
-    → x ≡ extent_of (decode_head h code ops types start rfs) → x ≡ extent_of (decode_at code ops types start rfs wide extra)
-unfolding decode_at
-extent_by code ops types start wide extra rfs h e f = f ∙ ap (λ (y : Head). extent_of (decode_head y code ops types start rfs)) e

@@ -7,6 +7,7 @@ use native.Mathlib.Omega.{arith}
 use lib.Dec.{leb, ltb, eqb}
 use lib.ListN.{length, get_or}
 use lib.IntN.{ℤ}
+use Rattle.refusal.specs.declared.Fault.{Fault}
 use Rattle.laws.specs.Scan.{first_from}
 use Rattle.laws.proofs.Tests.{by_test}
 use Rattle.tables.specs.Records.{width}
@@ -56,8 +57,8 @@ module _ (code : List ℕ) (start : ℕ) where
   op_short : (n scale at : ℕ) → at ≤ start + 1 → HeadShort (op_at code n start scale at)
   op_short n scale at h = by_test HeadShort (leb n (get_or code at 0)) (λ _. tt) (λ _. omega arith)
 
-  behind_short : (n number scale : ℕ) → HeadShort (behind code n start number scale)
-  behind_short n number scale = by_test HeadShort (eqb (start + 1) (length code)) (λ _. tt) (λ _. op_short n scale (start + 1) (omega arith))
+  behind_short : (n : ℕ) (f : Fault) (scale : ℕ) → HeadShort (behind code n start f scale)
+  behind_short n f scale = by_test HeadShort (eqb (start + 1) (length code)) (λ _. tt) (λ _. op_short n scale (start + 1) (omega arith))
 
   head_short : (n wide extra : ℕ) → HeadShort (head_at code n start wide extra)
   unfolding head_at

@@ -6,7 +6,6 @@ ghost use Rattle.flow.specs.Opcodes.{opcodes_of};
 ghost use Rattle.prefix.specs.declared.Head.TheVariants as head;
 ghost use Rattle.decoder.specs.Decode.{blank, operand_types, decode_head, decode_at};
 ghost use Rattle.decoder.specs.mirror.Extent.{size_of, size_from, extent_of};
-ghost use Rattle.decoder.specs.mirror.Steps.{operands_at, of_ops, steps_at};
 
 use operand::{Operand, Step};
 use prefix::Head;
@@ -17,6 +16,10 @@ use refusal::Refusal;
 pub struct OperandRecord {
     pub operand: Operand,
 }
+
+const NOTHING: OperandRecord = OperandRecord {
+    operand: Operand::Nothing,
+};
 
 // An instruction: its operands are the first count of the eight.
 #[derive(Clone, Copy)]
@@ -53,17 +56,8 @@ pub struct Extent {
     pub end: usize,
 }
 
-// Operands as far as they are read, for contracts: before is the type code of the last one.
-#[derive(Clone, Copy)]
-struct Operands {
-    pub outcome: Outcome,
-    pub at: usize,
-    pub count: usize,
-    pub before: u8,
-    pub slots: [OperandRecord; 8],
-}
-
 // The instruction at a place; wide and extra are the prefix opcodes. It checks nothing: a byte past the end of a table is 0.
+#[tactic(auto, unfolding(crate::specs::Decode::decode_at))]
 pub fn decode_at(
     code: &[u8],
     opcodes: &[u8],
@@ -75,10 +69,24 @@ pub fn decode_at(
 ) -> Decoded
     ensures { result ≡ decode_at code.now (opcodes_of opcodes.now) types.now start reg_file_start wide extra }
 {
-    decode_steps(code, opcodes, types, start, reg_file_start, wide, extra)
+    match prefix::head_at(code, tables::opcode_count(opcodes), start, wide, extra) {
+        Head::End => no_instr(Outcome::End, start % 8),
+        Head::Refused(refusal) => no_instr(Outcome::Refused(refusal), start % 8),
+        Head::Op { opcode, scale, at } => decode_op(
+            code,
+            opcodes,
+            types,
+            start,
+            opcode,
+            scale,
+            reg_file_start,
+            at,
+        ),
+    }
 }
 
 // The extent of the instruction at a place: decoding by sizes alone. Operands are read only where the code ends too early.
+#[tactic(auto, unfolding(crate::specs::Decode::decode_at))]
 pub fn extent_at(
     code: &[u8],
     opcodes: &[u8],
@@ -104,16 +112,13 @@ pub fn extent_at(
 pub fn blank_instr() -> Instr
     ensures { result ≡ blank }
 {
-    let none = OperandRecord {
-        operand: Operand::Nothing,
-    };
     Instr {
         offset: 0,
         opcode: 0,
         scale: 0,
         end: 0,
         count: 0,
-        operands: [none; 8],
+        operands: [NOTHING; 8],
     }
 }
 
@@ -128,20 +133,15 @@ fn decode_op(
     reg_file_start: i32,
     at: usize,
 ) -> Decoded
-    ensures { result ≡ of_ops start opcode scale
-        (operands_at code.now (opcodes_of opcodes.now) types.now opcode scale reg_file_start at) }
+    ensures { result ≡ decode_head (head.Op opcode scale at)
+        code.now (opcodes_of opcodes.now) types.now start reg_file_start }
 {
-    let all = tables::operand_count(opcodes, opcode);
-    let n = if all < 8 { all } else { 8 };
-    let none = OperandRecord {
-        operand: Operand::Nothing,
-    };
-    let mut slots = [none; 8];
+    let n = tables::operand_count(opcodes, opcode).min(8);
+    let mut slots = [NOTHING; 8];
     let mut p = at;
     let mut count: usize = 0;
     let mut before: u8 = 0;
-    let mut k: u8 = 0;
-    while k < n {
+    for k in 0..n {
         let t = tables::type_code(opcodes, opcode, k);
         match operand::operand_at(code, types, t, before, scale, p, reg_file_start) {
             Step::Skip => {}
@@ -153,7 +153,6 @@ fn decode_op(
             }
         }
         before = t;
-        k += 1;
     }
     Decoded {
         outcome: Outcome::Done,
@@ -170,15 +169,13 @@ fn decode_op(
 
 // An outcome with no instruction. The store at a place known only at run time keeps the array whole in memory, so that it is copied at once,
 // not field by field.
+#[tactic(auto, using(crate::proofs::Laws::set_replicate))]
 fn no_instr(outcome: Outcome, k: usize) -> Decoded
     requires { k < 8 }
     ensures { result ≡ record { outcome = outcome; instr = blank } }
 {
-    let none = OperandRecord {
-        operand: Operand::Nothing,
-    };
-    let mut slots = [none; 8];
-    slots[k] = none;
+    let mut slots = [NOTHING; 8];
+    slots[k] = NOTHING;
     Decoded {
         outcome,
         instr: Instr {
@@ -226,13 +223,11 @@ fn extent_op(
         };
     }
     let d = decode_op(code, opcodes, types, start, opcode, scale, 0, at);
-    let outcome = d.outcome;
-    let instr = d.instr;
     Extent {
-        outcome,
-        opcode: instr.opcode,
-        scale: instr.scale,
-        end: instr.end,
+        outcome: d.outcome,
+        opcode: d.instr.opcode,
+        scale: d.instr.scale,
+        end: d.instr.end,
     }
 }
 
@@ -240,21 +235,19 @@ fn extent_op(
 fn operands_size(opcodes: &[u8], types: &[u8], opcode: u8, scale: u8) -> usize
     ensures { result ≡ size_from types.now scale 0 (operand_types (opcodes_of opcodes.now) opcode) }
 {
-    let all = tables::operand_count(opcodes, opcode);
-    let n = if all < 8 { all } else { 8 };
+    let n = tables::operand_count(opcodes, opcode).min(8);
     let mut size: usize = 0;
     let mut before: u8 = 0;
-    let mut k: u8 = 0;
-    while k < n {
+    for k in 0..n {
         let t = tables::type_code(opcodes, opcode, k);
         size += type_size(types, scale, before, t);
         before = t;
-        k += 1;
     }
     size
 }
 
 // How many bytes an operand of type code t takes, with the count that a list reads; before is the type code before it.
+#[tactic(auto, using(crate::proofs::Extents::width_eight), unfolding(crate::specs::mirror::Extent::size_of))]
 fn type_size(types: &[u8], scale: u8, before: u8, t: u8) -> usize
     ensures { (result ≡ size_of types.now scale before t) × (result ≤ 16) }
 {
@@ -266,32 +259,4 @@ fn type_size(types: &[u8], scale: u8, before: u8, t: u8) -> usize
         return w;
     }
     w + tables::type_width(types, 8, scale)
-}
-
-// The instruction at a place, step by step.
-fn decode_steps(
-    code: &[u8],
-    opcodes: &[u8],
-    types: &[u8],
-    start: usize,
-    reg_file_start: i32,
-    wide: usize,
-    extra: usize,
-) -> Decoded
-    ensures { result ≡ steps_at code.now (opcodes_of opcodes.now) types.now start reg_file_start wide extra }
-{
-    match prefix::head_at(code, tables::opcode_count(opcodes), start, wide, extra) {
-        Head::End => no_instr(Outcome::End, start % 8),
-        Head::Refused(refusal) => no_instr(Outcome::Refused(refusal), start % 8),
-        Head::Op { opcode, scale, at } => decode_op(
-            code,
-            opcodes,
-            types,
-            start,
-            opcode,
-            scale,
-            reg_file_start,
-            at,
-        ),
-    }
 }

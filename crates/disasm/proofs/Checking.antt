@@ -1,11 +1,12 @@
 -- A pass that writes nothing: what holds at each instruction, and what its end says. Assumes nothing.
 use Prim.Native.Nat.{ℕ, suc, ◌+◌, ◌-◌, ◌<◌, ◌≤◌, min}
-use mathlib.Core.Path.{◌≡◌, sym, ap, ◌∙◌}
+use mathlib.Core.Path.{◌≡◌, refl, sym, ap, ◌∙◌}
 use mathlib.Core.Bool.{Bool}
 use native.Mathlib.Omega.{arith}
 use Rattle.refusal.specs.declared.Refusal.{Refusal}
-use Rattle.refusal.specs.declared.Check.{Check}
-use Rattle.refusal.specs.declared.Check.TheVariants.{Ok, Refused}
+use Rattle.std.specs.Prelude.{Option, Result, Ok, Err}
+use Rattle.refusal.specs.Check.{Check}
+use Rattle.targets.specs.declared.Entries.{Entries}
 use Rattle.refusal.specs.Check.{first_refusal}
 use Rattle.text.specs.Put.{place}
 use Rattle.decoder.specs.declared.Outcome.{Outcome}
@@ -14,13 +15,31 @@ use Rattle.decoder.specs.declared.Extent.{Extent}
 use Rattle.decoder.specs.mirror.Extent.{extent_of}
 use Rattle.flow.specs.declared.Flow.{Flow}
 use Rattle.flow.specs.Opcodes.{Opcodes}
-use Rattle.targets.specs.declared.Table.{Table}
 use Rattle.targets.specs.Targets.{jump_table}
 use Rattle.lines.specs.mirror.Room.{line_room}
 use Rattle.lines.proofs.Room.{room_more}
-use Rattle.disasm.specs.mirror.Lines.{header_room, lines_room, Checked}
+use Rattle.disasm.specs.mirror.Lines.{header_room, lines_room, passed, Checked}
+use Rattle.std.specs.Result.{result_and}
 use Rattle.function.specs.Code.{table_check}
 use Rattle.function.proofs.Passing.{all_of, rest_of, Going, going_start, going_refused, going_end, going_instrs, going_done}
+use Rattle.targets.specs.declared.BadSwitch.{BadSwitch}
+
+-- a check and then room
+room_passed : (check : Check) (p : ℕ) → passed (result_and check (Ok p)) ≡ check
+room_passed (Ok tt) p = refl
+room_passed (Err r) p = refl
+
+room_is : (check : Check) (p n : ℕ) → ◌≡◌ {A = Result ℕ Refusal} (result_and check (Ok p)) (Ok n) → p ≡ n
+room_is (Ok tt) p n e = cc
+room_is (Err r) p n e = absurd (cc)
+
+never_room : (r : Refusal) (n : ℕ) → ◌≡◌ {A = Result ℕ Refusal} (Err r) (Ok n) → ⊥
+never_room r n e = cc
+
+-- the first refusal of two
+pub and_is : (a b : Check) → result_and a b ≡ first_refusal a b
+and_is (Ok tt) b = refl
+and_is (Err r) b = refl
 
 module _ (ops : Opcodes) (pooled : Bool) (d : ℕ → Decoded) (len : ℕ) where
   -- of the room for all lines and the header, done is counted, or more
@@ -30,28 +49,28 @@ module _ (ops : Opcodes) (pooled : Bool) (d : ℕ → Decoded) (len : ℕ) where
     pub enough : place done ≤ p
     pub whole : header_room + lines_room ops pooled (all_of d len).instrs ≡ done + lines_room ops pooled (rest_of d len going.passed i).instrs
 
-  pub room_start : RoomInv header_room Ok 0
+  pub room_start : RoomInv header_room (Ok tt) 0
   unfolding going_start
   room_start =
       let z : suc len - 0 ≡ suc len = omega arith in
       record { going = going_start ops pooled d len; done = header_room; enough = omega arith; whole = rw z }
 
   module _ {p i : ℕ} {check : Check} (s : RoomInv p check i) where
-    room_refused : (r : Refusal) → (d i).outcome ≡ Outcome.Refused r → Checked ops pooled (all_of d len) (record { check = Refused r; room = p })
-    room_refused r e = let g = going_refused ops pooled d len s.going r e in record { checked = g.0; room = λ ok. absurd (g.1 ok) }
+    room_refused : (r : Refusal) → (d i).outcome ≡ Outcome.Refused r → Checked ops pooled (all_of d len) (Err r)
+    room_refused r e = record { checked = (going_refused ops pooled d len s.going r e).0; room = λ n e. absurd (never_room r n e) }
 
-    pub room_end : (d i).outcome ≡ Outcome.End → Checked ops pooled (all_of d len) (record { check = check; room = p })
+    pub room_end : (d i).outcome ≡ Outcome.End → Checked ops pooled (all_of d len) (result_and check (Ok p))
     unfolding lines_room
     room_end e =
         let g = going_end ops pooled d len s.going e in
         let w = ap (lines_room ops pooled) g.1 in
-        record { checked = g.0; room = λ ok. omega (arith, s.enough, s.whole, w) }
+        record { checked = room_passed check p ∙ g.0; room = λ n e. omega (arith, s.enough, s.whole, w, room_is check p n e) }
 
     -- the flow, the table and the least room of the instruction at i
     abbrev flow : Flow
     flow = ops.flow (d i).instr.opcode
 
-    abbrev table : Table
+    abbrev table : Result (Option Entries) BadSwitch
     table = jump_table pooled flow (d i).instr
 
     abbrev least : ℕ
@@ -75,13 +94,13 @@ module _ (ops : Opcodes) (pooled : Bool) (d : ℕ → Decoded) (len : ℕ) where
       same : {o : Outcome} → x.outcome ≡ o → (d i).outcome ≡ o
       same e = ap (λ (y : Extent). y.outcome) (sym is) ∙ e
 
-      pub checked_refused : (r : Refusal) → x.outcome ≡ Outcome.Refused r → Checked ops pooled (all_of d len) (record { check = Refused r; room = p })
+      pub checked_refused : (r : Refusal) → x.outcome ≡ Outcome.Refused r → Checked ops pooled (all_of d len) (Err r)
       checked_refused r e = room_refused r (same e)
 
-      pub checked_end : x.outcome ≡ Outcome.End → Checked ops pooled (all_of d len) (record { check = check; room = p })
+      pub checked_end : x.outcome ≡ Outcome.End → Checked ops pooled (all_of d len) (result_and check (Ok p))
       checked_end e = room_end (same e)
 
-      pub checked_done : {c' : Check} {p' n : ℕ} {z : Flow} {t : Table} → x.outcome ≡ Outcome.Done → i < x.end → x.end ≤ len → (d i).instr.offset ≡ i
+      pub checked_done : {c' : Check} {p' n : ℕ} {z : Flow} {t : Result (Option Entries) BadSwitch} → x.outcome ≡ Outcome.Done → i < x.end → x.end ≤ len → (d i).instr.offset ≡ i
           → min (d i).instr.count 8 ≤ n → z ≡ ops.flow x.opcode → t ≡ jump_table pooled z (d i).instr → c' ≡ first_refusal check (table_check t i)
           → p' ≡ place (p + line_room z n (x.end - i) t) → RoomInv p' c' x.end
       checked_done {c'} {p'} {n} {z} {t} e low high off few fl te ce room =

@@ -1,14 +1,13 @@
 -- Laws of the listing: what a pass says of the answer, and how long its text can be. Assumes nothing.
 use Prim.Native.Nat.{ℕ, ◌<◌, ◌≤◌, ◌^◌}
-use mathlib.Core.Path.{◌≡◌, refl, sym, ◌∙◌}
+use mathlib.Core.Path.{◌≡◌, refl, sym, ap, ◌∙◌}
 use mathlib.Core.Bool.{Bool, false}
 use mathlib.Core.List.{List, [], ◌∷◌}
 use native.Mathlib.Omega.{arith}
 use lib.ListN.{length, length-append}
 use Rattle.refusal.specs.declared.Refusal.{Refusal}
-use Rattle.refusal.specs.declared.Check.TheVariants.{Ok, Refused}
+use Rattle.std.specs.Prelude.{None, Result, Ok, Err}
 use Rattle.refusal.proofs.Laws.{or_left}
-use Rattle.text.specs.declared.Written.{Written}
 use Rattle.text.specs.Put.{Put}
 use Rattle.text.specs.Written.{put_text}
 use Rattle.text.specs.mirror.Written.{WrittenBy}
@@ -22,12 +21,9 @@ use Rattle.flow.specs.declared.Flow.{Flow}
 use Rattle.targets.specs.Targets.{is_switch, jump_table}
 use Rattle.lines.specs.Line.{View}
 use Rattle.lines.proofs.Room.{NamesFit, signed_room, line_room_lem}
-use Rattle.disasm.specs.declared.Pass.{Pass}
 use Rattle.function.specs.Code.{code_check}
 use Rattle.disasm.specs.Listing.{header_text, lines_text, listing_text, list_view}
-use Rattle.disasm.specs.mirror.Lines.{header_room, lines_room, Checked}
-use Rattle.targets.specs.declared.Table.TheVariants as table
-use Rattle.text.specs.declared.Written.TheVariants as written
+use Rattle.disasm.specs.mirror.Lines.{header_room, lines_room, passed, Checked}
 
 -- ---- room
 
@@ -45,29 +41,29 @@ header_room_lem h =
 
 -- ---- the first pass
 -- what is no switch has no table
-pub no_table : (pooled : Bool) (flow : Flow) (i : Instr) → is_switch flow.kind ≡ false → table.Nothing ≡ jump_table pooled flow i
+pub no_table : (pooled : Bool) (flow : Flow) (i : Instr) → is_switch flow.kind ≡ false → Ok None ≡ jump_table pooled flow i
 unfolding jump_table
 no_table pooled flow i e = rw e
 
 -- where it found nothing, decoding came to the code's end
-pub check_fine : {ops : Opcodes} {pooled : Bool} (l : Listing) {m : Pass} → Checked ops pooled l m → m.check ≡ Ok → code_check l.outcome ≡ Ok
-check_fine l c ok = or_left (code_check l.outcome) _ (sym c.checked ∙ ok)
+pub check_fine : {ops : Opcodes} {pooled : Bool} (l : Listing) {m : Result ℕ Refusal} {n : ℕ} → Checked ops pooled l m → m ≡ Ok n → code_check l.outcome ≡ Ok tt
+check_fine l c ok = or_left (code_check l.outcome) _ (sym c.checked ∙ ap passed ok)
 
-module _ (v : View) (h : Header) (l : Listing) (o : List ℕ) {m : Pass} (c : Checked v.opcodes v.pooled l m) where
-  pub check_refused : (r : Refusal) → m.check ≡ Refused r → WrittenBy (list_view v h l o) (written.Refused r) o
+module _ (v : View) (h : Header) (l : Listing) (o : List ℕ) {m : Result ℕ Refusal} (c : Checked v.opcodes v.pooled l m) where
+  pub check_refused : (r : Refusal) → m ≡ Err r → WrittenBy (list_view v h l o) (Err r) o
   unfolding list_view
-  check_refused r e = rw (sym c.checked ∙ e) (refl, refl)
+  check_refused r e = rw (sym c.checked ∙ ap passed e) (refl, refl)
 
-  module _ (ok : m.check ≡ Ok) where
+  module _ {n : ℕ} (ok : m ≡ Ok n) where
     -- what is written where 11 to 16 are past
-    pub check_written : {r : Written} {o' : List ℕ} → WrittenBy (put_text (listing_text v h l) o) r o' → WrittenBy (list_view v h l o) r o'
+    pub check_written : {r : Result ℕ Refusal} {o' : List ℕ} → WrittenBy (put_text (listing_text v h l) o) r o' → WrittenBy (list_view v h l o) r o'
     unfolding list_view
-    check_written w = rw (sym c.checked ∙ ok) w
+    check_written w = rw (sym c.checked ∙ ap passed ok) w
 
     -- a buffer with the room is long enough
-    pub check_fits : NamesFit v.opcodes → length o < 2 ^ 63 → m.room ≤ length o → {o' : List ℕ} {r : ℕ} → Put o 0 (listing_text v h l) o' r
-        → WrittenBy (list_view v h l o) (written.Done r) o'
+    pub check_fits : NamesFit v.opcodes → length o < 2 ^ 63 → n ≤ length o → {o' : List ℕ} {r : ℕ} → Put o 0 (listing_text v h l) o' r
+        → WrittenBy (list_view v h l o) (Ok r) o'
     check_fits short small room p =
         let f : length (listing_text v h l) ≤ length o =
-        rw length-append (omega (arith, c.room (check_fine l c ok), header_room_lem h, lines_room_lem v short l.instrs)) in
+        rw length-append (omega (arith, c.room n ok, header_room_lem h, lines_room_lem v short l.instrs)) in
         check_written (written_whole (listing_text v h l) o small f p)

@@ -5,7 +5,7 @@ use mathlib.Core.List.{List}
 use native.Mathlib.Omega.{arith}
 use lib.ListN.{length}
 use Rattle.refusal.specs.declared.Refusal.{Refusal}
-use Rattle.refusal.specs.declared.Check.TheVariants.{Ok}
+use Rattle.std.specs.Prelude.{Ok}
 use Rattle.refusal.proofs.Laws.{never}
 use Rattle.text.specs.Put.{Put, place}
 use Rattle.decoder.specs.declared.Outcome.{Outcome}
@@ -46,7 +46,7 @@ module _ (v : View) (d : ℕ → Decoded) (len : ℕ) where
       same : {o : Outcome} → x.outcome ≡ o → (d i).outcome ≡ o
       same e = ap (λ (y : Decoded). y.outcome) (sym is) ∙ e
 
-      pub refused_at_lem : (r : Refusal) → x.outcome ≡ Outcome.Refused r → code_check (all_of d len).outcome ≡ Ok → ⊥
+      pub refused_at_lem : (r : Refusal) → x.outcome ≡ Outcome.Refused r → code_check (all_of d len).outcome ≡ Ok tt → ⊥
       refused_at_lem r e ok = never r (sym (ap code_check (pass_refused d len s.pass r (same e))) ∙ ok)
 
       pub end_at_lem : x.outcome ≡ Outcome.End → Put o p₀ (lines_text v (all_of d len).instrs) o' p

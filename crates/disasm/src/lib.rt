@@ -2,7 +2,6 @@
 #![tactic(auto)]
 
 ghost use Rattle.std.specs.Prelude.{◌≡◌};
-ghost use Rattle.refusal.specs.declared.Check.TheVariants.{Ok};
 ghost use Rattle.text.specs.Put.{Put};
 ghost use Rattle.text.specs.Written.{put_text};
 ghost use Rattle.text.specs.Numbers.{WrittenAs};
@@ -21,22 +20,14 @@ ghost use Rattle.disasm.specs.mirror.Listing.{code_of, list_with, list_searched}
 use decoder::Outcome;
 use flow::{Flow, Kind};
 use function::Function;
-use header::{Header, HeaderAnswer};
-use refusal::{Check, Refusal};
+use header::Header;
+use refusal::{Fault, Refusal};
 use store::Object;
 use tables::Layout;
-use targets::{Pool, Table};
-use text::Written;
+use targets::{BadSwitch, Entries, PoolSlots};
 
 // Room for the header lines, which are shorter.
 const HEADER_ROOM: usize = 250;
-
-// What the first pass over the instructions answers: the checks of 11 to 16, and room for the header and all lines.
-#[derive(Clone, Copy)]
-pub struct Pass {
-    pub check: Check,
-    pub room: usize,
-}
 
 // The listing of an object, a BytecodeArray, from the start of the buffer on. Rows 1 to 9 and 11 to 17; after a refusal the buffer is as
 // it was.
@@ -51,29 +42,18 @@ pub fn list(
     slots: &[u8],
     payload: &[u8],
     object: usize,
-) -> Written
+) -> Result<usize, Refusal>
     ensures { WrittenAs (list_call
         (files_of opcodes.now types.now runtime.now intrinsic.now layout.now
         objects.now slots.now payload.now) object out.old) result out.new }
 {
-    let check = function::check_files(
+    function::check_files(
         opcodes, types, runtime, intrinsic, layout, objects, slots, payload, object,
-    );
-    match check {
-        Check::Refused(refusal) => Written::Refused(refusal),
-        Check::Ok => list_object(
-            out,
-            opcodes,
-            types,
-            runtime,
-            intrinsic,
-            layout,
-            objects,
-            slots,
-            payload,
-            store::object_of(objects, object),
-        ),
-    }
+    )?;
+    let object = store::object_of(objects, object);
+    list_object(
+        out, opcodes, types, runtime, intrinsic, layout, objects, slots, payload, object,
+    )
 }
 
 // The listing of an object whose files are good.
@@ -88,21 +68,17 @@ fn list_object(
     slots: &[u8],
     payload: &[u8],
     object: Object,
-) -> Written
+) -> Result<usize, Refusal>
     ensures { WrittenBy (list_searched
         (files_of opcodes.now types.now runtime.now intrinsic.now layout.now
         objects.now slots.now payload.now) object out.old) result out.new }
 {
     let shape = tables::layout_of(layout);
-    match header::header_at_unchecked(slots, payload, object, shape) {
-        HeaderAnswer::Refused(refusal) => Written::Refused(refusal),
-        HeaderAnswer::At(h) => {
-            let pool = function::pool_of(objects, slots, shape, object);
-            list_header(
-                out, opcodes, types, runtime, intrinsic, slots, payload, shape, pool, h,
-            )
-        }
-    }
+    let h = header::header_at_unchecked(slots, payload, object, shape)?;
+    let pool = function::pool_of(objects, slots, shape, object);
+    list_header(
+        out, opcodes, types, runtime, intrinsic, slots, payload, shape, pool, h,
+    )
 }
 
 // The listing of a header and its code.
@@ -115,9 +91,9 @@ fn list_header(
     slots: &[u8],
     payload: &[u8],
     shape: Layout,
-    pool: Pool,
+    pool: Option<PoolSlots>,
     h: Header,
-) -> Written
+) -> Result<usize, Refusal>
     ensures { WrittenBy
         (list_with opcodes.now types.now runtime.now intrinsic.now slots.now
         payload.now shape pool h out.old) result out.new }
@@ -148,28 +124,21 @@ fn list_code(
     payload: &[u8],
     f: Function,
     h: Header,
-) -> Written
+) -> Result<usize, Refusal>
     ensures { WrittenBy (list_view
         (view_of (code_of payload.now h) opcodes.now types.now runtime.now intrinsic.now
         slots.now payload.now f) h
         (listed_by (code_of payload.now h) opcodes.now types.now f) out.old) result out.new }
 {
-    let first = check_lines(code_of(payload, h), opcodes, types, f);
-    let check = first.check;
-    let room = first.room;
-    match check {
-        Check::Refused(refusal) => Written::Refused(refusal),
-        Check::Ok => {
-            if room <= out.len() {
-                Written::Done(put_all(
-                    out, opcodes, types, runtime, intrinsic, slots, payload, f, h,
-                ))
-            } else {
-                list_measured(
-                    out, opcodes, types, runtime, intrinsic, slots, payload, f, h,
-                )
-            }
-        }
+    let room = check_lines(code_of(payload, h), opcodes, types, f)?;
+    if room <= out.len() {
+        Ok(put_all(
+            out, opcodes, types, runtime, intrinsic, slots, payload, f, h,
+        ))
+    } else {
+        list_measured(
+            out, opcodes, types, runtime, intrinsic, slots, payload, f, h,
+        )
     }
 }
 
@@ -184,8 +153,8 @@ fn list_measured(
     payload: &[u8],
     f: Function,
     h: Header,
-) -> Written
-    requires { code_check (listed_by (code_of payload.now h) opcodes.now types.now f).outcome ≡ Ok }
+) -> Result<usize, Refusal>
+    requires { code_check (listed_by (code_of payload.now h) opcodes.now types.now f).outcome ≡ Ok tt }
     ensures { WrittenBy (put_text (listing_text
         (view_of (code_of payload.now h) opcodes.now types.now runtime.now intrinsic.now
         slots.now payload.now f) h
@@ -203,12 +172,12 @@ fn list_measured(
         h,
     );
     if size <= out.len() {
-        Written::Done(put_all(
+        Ok(put_all(
             out, opcodes, types, runtime, intrinsic, slots, payload, f, h,
         ))
     } else {
-        Written::Refused(Refusal {
-            number: refusal::SHORT_OUTPUT,
+        Err(Refusal {
+            fault: Fault::ShortOutput,
             place: 0,
         })
     }
@@ -226,14 +195,14 @@ fn put_all(
     f: Function,
     h: Header,
 ) -> usize
-    requires { code_check (listed_by (code_of payload.now h) opcodes.now types.now f).outcome ≡ Ok }
+    requires { code_check (listed_by (code_of payload.now h) opcodes.now types.now f).outcome ≡ Ok tt }
     ensures { Put out.old 0 (listing_text
         (view_of (code_of payload.now h) opcodes.now types.now runtime.now intrinsic.now
         slots.now payload.now f) h
         (listed_by (code_of payload.now h) opcodes.now types.now f)) out.new result }
 {
     let p = put_header(out, 0, h);
-    let q = text::min(p, out.len());
+    let q = p.min(out.len());
     let w = put_lines(
         &mut out[q..],
         code_of(payload, h),
@@ -279,7 +248,7 @@ fn put_lines(
     payload: &[u8],
     f: Function,
 ) -> usize
-    requires { code_check (listed_by code.now opcodes.now types.now f).outcome ≡ Ok }
+    requires { code_check (listed_by code.now opcodes.now types.now f).outcome ≡ Ok tt }
     ensures { Put out.old 0 (lines_text
         (view_of code.now opcodes.now types.now runtime.now intrinsic.now
         slots.now payload.now f)
@@ -305,7 +274,7 @@ fn put_each(
     blocks: &[u32],
     f: Function,
 ) -> usize
-    requires { (code_check (listed_by code.now opcodes.now types.now f).outcome ≡ Ok)
+    requires { (code_check (listed_by code.now opcodes.now types.now f).outcome ≡ Ok tt)
         × PoolBlocked slots.now f.ts f.pool blocks.now }
     ensures { Put out.old 0 (lines_text
         (view_of code.now opcodes.now types.now runtime.now intrinsic.now
@@ -316,6 +285,7 @@ fn put_each(
     let rfs = frame.reg_file_start;
     let mut p: usize = 0;
     let mut i: usize = 0;
+    // A step is as long as the instruction: a range or an iterator would be no plainer.
     while i < code.len() {
         let d = decoder::decode_at(code, opcodes, types, i, rfs, f.wide, f.extra);
         let outcome = d.outcome;
@@ -326,7 +296,7 @@ fn put_each(
             Outcome::Done => {
                 let end = instr.end;
                 let flow = flow::flow_of(opcodes, instr.opcode);
-                let q = text::min(p, out.len());
+                let q = p.min(out.len());
                 let w = lines::put_instr(
                     &mut out[q..],
                     &code[i..end],
@@ -347,25 +317,21 @@ fn put_each(
     p
 }
 
-// 11 to 16, and room for the header and all lines. An instruction's operands are decoded where it is a switch.
-fn check_lines(code: &[u8], opcodes: &[u8], types: &[u8], f: Function) -> Pass
+// 11 to 16, then room for the header and all lines. An instruction's operands are decoded where it is a switch.
+fn check_lines(code: &[u8], opcodes: &[u8], types: &[u8], f: Function) -> Result<usize, Refusal>
     ensures { Checked (opcodes_of opcodes.now) (found f.pool)
         (listed_by code.now opcodes.now types.now f) result }
 {
     let mut p = HEADER_ROOM;
-    let mut check = Check::Ok;
+    let mut check = Ok(());
     let mut i: usize = 0;
+    // A step is as long as the instruction: a range or an iterator would be no plainer.
     while i < code.len() {
         let x = decoder::extent_at(code, opcodes, types, i, f.wide, f.extra);
         let outcome = x.outcome;
         match outcome {
-            Outcome::Refused(refusal) => {
-                return Pass {
-                    check: Check::Refused(refusal),
-                    room: p,
-                };
-            }
-            Outcome::End => return Pass { check, room: p },
+            Outcome::Refused(refusal) => return Err(refusal),
+            Outcome::End => return check.and(Ok(p)),
             Outcome::Done => {
                 let end = x.end;
                 let size = end - i;
@@ -373,27 +339,34 @@ fn check_lines(code: &[u8], opcodes: &[u8], types: &[u8], f: Function) -> Pass
                 let table = table_at(code, opcodes, types, f, flow, i);
                 let count = tables::operand_count(opcodes, x.opcode);
                 let room = lines::line_room(flow, count, size as u8, table);
-                check = refusal::first_refusal(check, function::table_check(table, i));
+                check = check.and(function::table_check(table, i));
                 p = text::saturating_add(p, room);
                 i = end;
             }
         }
     }
-    Pass { check, room: p }
+    check.and(Ok(p))
 }
 
 // The table of the instruction at a place, whose flow is known.
-fn table_at(code: &[u8], opcodes: &[u8], types: &[u8], f: Function, flow: Flow, at: usize) -> Table
+fn table_at(
+    code: &[u8],
+    opcodes: &[u8],
+    types: &[u8],
+    f: Function,
+    flow: Flow,
+    at: usize,
+) -> Result<Option<Entries>, BadSwitch>
     ensures { result ≡ jump_table (found f.pool) flow
         (decoded_by code.now opcodes.now types.now f at).instr }
 {
     let kind = flow.kind;
     match kind {
-        Kind::On => Table::Nothing,
-        Kind::Ends => Table::Nothing,
-        Kind::Jumps => Table::Nothing,
-        Kind::Branches => Table::Nothing,
-        Kind::JumpsBack => Table::Nothing,
+        Kind::On => Ok(None),
+        Kind::Ends => Ok(None),
+        Kind::Jumps => Ok(None),
+        Kind::Branches => Ok(None),
+        Kind::JumpsBack => Ok(None),
         Kind::Switch => {
             let frame = f.frame;
             let rfs = frame.reg_file_start;

@@ -8,8 +8,19 @@ ghost use Rattle.walk.specs.Walk.{given_of};
 ghost use Rattle.program.specs.Printed.{Printed};
 ghost use Rattle.files.specs.PrintedBy.{printed_by};
 
-use inputs::Loaded;
 use std::rt::{Env, Files};
+
+// The usual names of the eight files, in the order of document 01.
+const NAMES: [&[u8]; 8] = [
+    b"opcodes.bin",
+    b"types.bin",
+    b"runtime.bin",
+    b"intrinsic.bin",
+    b"layout.bin",
+    b"objects.bin",
+    b"slots.bin",
+    b"payload.bin",
+];
 
 // Which answer is printed.
 #[derive(Clone, Copy)]
@@ -21,16 +32,16 @@ pub enum Program {
 // The whole program, on its arguments: files in the order of document 01, or none for those of the usual names in the current folder. In front of
 // them the walk program takes handler records: --handlers and a file.
 pub fn run(rt: &(impl Files + Env + Print + Eprint), what: Program) {
-    let count = text::min(inputs::argument_count(rt), 255);
+    let count = inputs::argument_count(rt).min(255);
     run_on(rt, what, 1, count as u8);
 }
 
 // The same on the arguments from number from on, below to.
 pub fn run_on(rt: &(impl Files + Env + Print + Eprint), what: Program, from: u8, to: u8) {
     if takes_handlers(rt, what, from, to) {
-        run_files(rt, what, from as u16 + 2, to as u16, from as u16 + 1);
+        run_files(rt, what, from as u16 + 2, to as u16, Some(from as u16 + 1));
     } else {
-        run_files(rt, what, from as u16, to as u16, 0);
+        run_files(rt, what, from as u16, to as u16, None);
     }
 }
 
@@ -42,56 +53,68 @@ fn takes_handlers(rt: &impl Env, what: Program, from: u8, to: u8) -> bool {
     }
 }
 
-// The program on the files from argument first on, below to; with the handler records of argument number handlers, or with none where that is 0.
+// The program on the files from argument first on, below to, and with the handler records of an argument, if any.
 fn run_files(
     rt: &(impl Files + Env + Print + Eprint),
     what: Program,
     first: u16,
     to: u16,
-    handlers: u16,
+    handlers: Option<u16>,
 ) {
-    if to < first {
-        usage(rt, what);
-    } else if to - first == 8 {
-        run_by(rt, what, first, handlers);
-    } else if to == first {
-        run_by(rt, what, 0, handlers);
+    if to == first {
+        run_by(rt, what, None, handlers);
+    } else if first <= to && to - first == 8 {
+        run_by(rt, what, Some(first), handlers);
     } else {
         usage(rt, what);
     }
 }
 
-// The same, where first is 0 for the usual names. A file's limit is 65,536 bytes; it has room for one more, in which a longer file shows.
-fn run_by(rt: &(impl Files + Env + Print + Eprint), what: Program, first: u16, handlers: u16) {
+// The same, with the usual names where no argument is the first file. A file's limit is 65,536 bytes; it has room for one more, in which a longer file
+// shows.
+fn run_by(
+    rt: &(impl Files + Env + Print + Eprint),
+    what: Program,
+    first: Option<u16>,
+    handlers: Option<u16>,
+) {
     let mut room = [0u8; 589833];
-    let opcodes = load(rt, true, first, 0, b"opcodes.bin", &mut room);
-    let types = load(rt, opcodes.good, first, 1, b"types.bin", &mut room);
-    let runtime = load(rt, types.good, first, 2, b"runtime.bin", &mut room);
-    let intrinsic = load(rt, runtime.good, first, 3, b"intrinsic.bin", &mut room);
-    let layout = load(rt, intrinsic.good, first, 4, b"layout.bin", &mut room);
-    let objects = load(rt, layout.good, first, 5, b"objects.bin", &mut room);
-    let slots = load(rt, objects.good, first, 6, b"slots.bin", &mut room);
-    let payload = load(rt, slots.good, first, 7, b"payload.bin", &mut room);
-    let records = load_given(rt, payload.good, handlers, &mut room);
-    if !records.good {
+    let Some(sizes) = load_all(rt, first, handlers, &mut room) else {
         return;
-    }
+    };
     print(
         rt,
         what,
-        file(&room, 0, opcodes.size),
-        file(&room, 1, types.size),
-        file(&room, 2, runtime.size),
-        file(&room, 3, intrinsic.size),
-        file(&room, 4, layout.size),
-        file(&room, 5, objects.size),
-        file(&room, 6, slots.size),
-        file(&room, 7, payload.size),
-        file(&room, 8, records.size),
+        file(&room, 0, sizes[0]),
+        file(&room, 1, sizes[1]),
+        file(&room, 2, sizes[2]),
+        file(&room, 3, sizes[3]),
+        file(&room, 4, sizes[4]),
+        file(&room, 5, sizes[5]),
+        file(&room, 6, sizes[6]),
+        file(&room, 7, sizes[7]),
+        file(&room, 8, sizes[8]),
     );
 }
 
-// The contents of file i of the eight, or of the handler records, which are file 8.
+// How long the eight files and the handler records are, which are file 8; none where one was not read, and none behind it is.
+fn load_all(
+    rt: &(impl Files + Env + Eprint),
+    first: Option<u16>,
+    handlers: Option<u16>,
+    room: &mut [u8; 589833],
+) -> Option<[usize; 9]> {
+    let mut sizes = [0; 9];
+    for (i, name) in NAMES.iter().enumerate() {
+        sizes[i] = load(rt, first, i as u8, name, room)?;
+    }
+    if let Some(i) = handlers {
+        sizes[8] = inputs::load_argument(rt, i as usize, &mut room[524296..])?;
+    }
+    Some(sizes)
+}
+
+// The contents of file i.
 fn file<'a>(room: &'a [u8; 589833], i: u8, size: usize) -> &'a [u8] {
     serializer::lent(room, i as usize * 65537, size)
 }
@@ -160,73 +183,22 @@ fn answer(
     }
 }
 
-// Reads file i of the eight, by its argument or by its usual name, where those before it were read.
+// Reads file i of the eight, by its argument or by its usual name, into its part of the room.
 fn load(
     rt: &(impl Files + Env + Eprint),
-    so_far: bool,
-    first: u16,
-    i: u8,
-    name: &[u8],
-    room: &mut [u8; 589833],
-) -> Loaded {
-    if so_far {
-        load_at(rt, first, i, name, room)
-    } else {
-        inputs::unread()
-    }
-}
-
-// Reads the handler records, argument number i; none where that is 0.
-fn load_given(
-    rt: &(impl Files + Env + Eprint),
-    so_far: bool,
-    i: u16,
-    room: &mut [u8; 589833],
-) -> Loaded {
-    if !so_far {
-        return inputs::unread();
-    }
-    if i == 0 {
-        return Loaded {
-            good: true,
-            size: 0,
-        };
-    }
-    load_records(rt, i, room)
-}
-
-fn load_records(rt: &(impl Files + Env + Eprint), i: u16, room: &mut [u8]) -> Loaded {
-    if room.len() < 589833 {
-        return inputs::unread();
-    }
-    inputs::load_argument(rt, i as usize, &mut room[524296..589833])
-}
-
-fn load_at(
-    rt: &(impl Files + Env + Eprint),
-    first: u16,
+    first: Option<u16>,
     i: u8,
     name: &[u8],
     room: &mut [u8],
-) -> Loaded {
+) -> Option<usize> {
     let at = i as usize * 65537;
     let end = at + 65537;
     if room.len() < end {
-        return inputs::unread();
+        return None;
     }
-    load_by(rt, first, i, name, &mut room[at..end])
-}
-
-fn load_by(
-    rt: &(impl Files + Env + Eprint),
-    first: u16,
-    i: u8,
-    name: &[u8],
-    buffer: &mut [u8],
-) -> Loaded {
-    if first == 0 {
-        inputs::load_file(rt, name, buffer)
-    } else {
-        inputs::load_argument(rt, first as usize + i as usize, buffer)
+    let buffer = &mut room[at..end];
+    match first {
+        Some(first) => inputs::load_argument(rt, first as usize + i as usize, buffer),
+        None => inputs::load_file(rt, name, buffer),
     }
 }

@@ -5,8 +5,8 @@ use mathlib.Core.Bool.{Bool}
 use mathlib.Core.List.{List, [], ◌∷◌}
 use native.Mathlib.Omega.{arith}
 use Rattle.refusal.specs.declared.Refusal.{Refusal}
-use Rattle.refusal.specs.declared.Check.{Check}
-use Rattle.refusal.specs.declared.Check.TheVariants.{Ok, Refused}
+use Rattle.std.specs.Prelude.{Ok, Err}
+use Rattle.refusal.specs.Check.{Check}
 use Rattle.refusal.specs.Check.{first_refusal}
 use Rattle.refusal.proofs.Laws.{never, or_none, or_assoc}
 use Rattle.decoder.specs.declared.Instr.{Instr}
@@ -25,11 +25,11 @@ module _ (ops : Opcodes) (pooled : Bool) (d : ℕ → Decoded) (len : ℕ) where
     pub pass : PassInv d len passed i
     pub switches : switch_check ops pooled (all_of d len).instrs ≡ first_refusal check (switch_check ops pooled (rest_of d len passed i).instrs)
 
-  unfoldable pub going_start : Going Ok 0
+  unfoldable pub going_start : Going (Ok tt) 0
   going_start = let z : suc len - 0 ≡ suc len = omega arith in record { passed = 0; pass = pass_start d len; switches = rw z }
 
   module _ {i : ℕ} {check : Check} (s : Going check i) where
-    pub going_refused : (r : Refusal) → (d i).outcome ≡ Outcome.Refused r → (Refused r ≡ listing_check ops pooled (all_of d len)) × (code_check (all_of d len).outcome ≡ Ok → ⊥)
+    pub going_refused : (r : Refusal) → (d i).outcome ≡ Outcome.Refused r → (Err r ≡ listing_check ops pooled (all_of d len)) × (code_check (all_of d len).outcome ≡ Ok tt → ⊥)
     going_refused r e =
         let f = pass_refused d len s.pass r e in
         (sym (ap (λ (x : Outcome). first_refusal (code_check x) (switch_check ops pooled (all_of d len).instrs)) f), λ ok. never r (sym (ap code_check f) ∙ ok))

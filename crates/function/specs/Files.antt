@@ -1,13 +1,11 @@
 -- The files that a call on a function is lent, and their checks in 01's order.
 use Rattle.std.specs.Prelude.{ℕ, List, []}
-use Rattle.refusal.specs.declared.Check.{Check}
-use Rattle.refusal.specs.declared.Check.TheVariants.{Ok}
+use Rattle.std.specs.Prelude.{Option, Some, None, Ok}
+use Rattle.refusal.specs.Check.{Check}
 use Rattle.refusal.specs.Check.{first_refusal}
 use Rattle.store.specs.Check.{check_store, check_object, check_code_object}
 use Rattle.tables.specs.Check.{check_table}
 use Rattle.bytecode.specs.Decode.{check_code}
-use Rattle.function.specs.declared.PoolObject.{PoolObject}
-use Rattle.function.specs.declared.PoolObject.TheVariants as pool-object
 
 -- the record files, in 01's order
 pub record Files : Type 0 where
@@ -43,12 +41,12 @@ check_files f object =
     (first_refusal (check_store f.objects f.slots f.payload) (check_code_object f.objects object))
 
 -- "Each call makes only the checks for what it is lent": rows 6 to 8 where an object is. It must be there; no header is wanted of it.
-abbrev pub check_pool_object : List ℕ → List ℕ → List ℕ → PoolObject → Check
-check_pool_object objects slots payload pool-object.Nothing = Ok
-check_pool_object objects slots payload (pool-object.Object n) = first_refusal (check_store objects slots payload) (check_object objects n)
+abbrev pub check_pool_object : List ℕ → List ℕ → List ℕ → Option ℕ → Check
+check_pool_object objects slots payload None = Ok tt
+check_pool_object objects slots payload (Some n) = first_refusal (check_store objects slots payload) (check_object objects n)
 
 -- rows 1 to 8 and 10, in 01's order
-abbrev pub check_lent : Files → PoolObject → List ℕ → Check
+abbrev pub check_lent : Files → Option ℕ → List ℕ → Check
 check_lent f w code =
     first_refusal (check_table f.opcodes f.types f.runtime f.intrinsic f.layout)
     (first_refusal (check_pool_object f.objects f.slots f.payload w) (check_code code))

@@ -9,25 +9,17 @@ ghost use Rattle.function.specs.Code.{table_check};
 ghost use Rattle.function.specs.mirror.Pool.{pool_found, lent_found};
 ghost use Rattle.function.specs.mirror.Function.{function_of};
 
-use refusal::{Check, Refusal};
-use serializer::SlotAt;
+use refusal::{Fault, Refusal};
 use store::{Object, SlotValue};
 use tables::{Frame, Layout};
-use targets::{Pool, PoolSlots, Table};
-
-// The object whose pool lent code uses, if one is lent. Without one no store is lent either.
-#[derive(Clone, Copy)]
-pub enum PoolObject {
-    Nothing,
-    Object(usize),
-}
+use targets::{BadSwitch, Entries, PoolSlots};
 
 // What is found once of a function: the tagged size, its pool, the frame, the parameter count, the prefix opcodes. Lent code has no header:
 // its parameter count is 0, and no walk or target reads it.
 #[derive(Clone, Copy)]
 pub struct Function {
     pub ts: u8,
-    pub pool: Pool,
+    pub pool: Option<PoolSlots>,
     pub frame: Frame,
     pub params: i32,
     pub wide: usize,
@@ -45,17 +37,14 @@ pub fn check_files(
     slots: &[u8],
     payload: &[u8],
     object: usize,
-) -> Check
+) -> Result<(), Refusal>
     ensures { result ≡ check_files
         (files_of opcodes.now types.now runtime.now intrinsic.now layout.now
         objects.now slots.now payload.now) object }
 {
-    let table = tables::check_table(opcodes, types, runtime, intrinsic, layout);
-    let files = refusal::first_refusal(
-        store::check_store(objects, slots, payload),
-        store::check_code_object(objects, object),
-    );
-    refusal::first_refusal(table, files)
+    tables::check_table(opcodes, types, runtime, intrinsic, layout)?;
+    store::check_store(objects, slots, payload)?;
+    store::check_code_object(objects, object)
 }
 
 // Rows 1 to 8 and 10, of lent code.
@@ -67,33 +56,37 @@ pub fn check_lent(
     objects: &[u8],
     slots: &[u8],
     payload: &[u8],
-    object: PoolObject,
-) -> Check
+    object: Option<usize>,
+) -> Result<(), Refusal>
     ensures { result ≡ check_lent
         (lent_files opcodes.now types.now layout.now objects.now slots.now payload.now)
         object code.now }
 {
-    let table = tables::check_table(opcodes, types, b"", b"", layout);
-    let owned = check_pool_object(objects, slots, payload, object);
-    let rest = refusal::first_refusal(owned, bytecode::check_code(code));
-    refusal::first_refusal(table, rest)
+    tables::check_table(opcodes, types, b"", b"", layout)?;
+    check_pool_object(objects, slots, payload, object)?;
+    bytecode::check_code(code)
 }
 
 // Rows 6 to 8, where an object is lent.
-fn check_pool_object(objects: &[u8], slots: &[u8], payload: &[u8], object: PoolObject) -> Check
+fn check_pool_object(
+    objects: &[u8],
+    slots: &[u8],
+    payload: &[u8],
+    object: Option<usize>,
+) -> Result<(), Refusal>
     ensures { result ≡ check_pool_object objects.now slots.now payload.now object }
 {
     match object {
-        PoolObject::Nothing => Check::Ok,
-        PoolObject::Object(n) => refusal::first_refusal(
-            store::check_store(objects, slots, payload),
-            store::check_object(objects, n),
-        ),
+        None => Ok(()),
+        Some(n) => {
+            store::check_store(objects, slots, payload)?;
+            store::check_object(objects, n)
+        }
     }
 }
 
 // What is found once of a function, of its table, layout, pool and parameter count.
-pub fn function_of(opcodes: &[u8], shape: Layout, pool: Pool, params: i32) -> Function
+pub fn function_of(opcodes: &[u8], shape: Layout, pool: Option<PoolSlots>, params: i32) -> Function
     ensures { result ≡ function_of opcodes.now shape pool params }
 {
     let prefixes = tables::prefix_ops(opcodes);
@@ -109,7 +102,7 @@ pub fn function_of(opcodes: &[u8], shape: Layout, pool: Pool, params: i32) -> Fu
 }
 
 // The pool of an object.
-pub fn pool_of(objects: &[u8], slots: &[u8], shape: Layout, object: Object) -> Pool
+pub fn pool_of(objects: &[u8], slots: &[u8], shape: Layout, object: Object) -> Option<PoolSlots>
     ensures { result ≡ pool_found objects.now slots.now shape object }
 {
     let slot = shape.pool_slot as u64;
@@ -120,42 +113,47 @@ pub fn pool_of(objects: &[u8], slots: &[u8], shape: Layout, object: Object) -> P
 }
 
 // The pool that lent code uses.
-pub fn lent_pool(objects: &[u8], slots: &[u8], shape: Layout, object: PoolObject) -> Pool
+pub fn lent_pool(
+    objects: &[u8],
+    slots: &[u8],
+    shape: Layout,
+    object: Option<usize>,
+) -> Option<PoolSlots>
     ensures { result ≡ lent_found objects.now slots.now shape object }
 {
     match object {
-        PoolObject::Nothing => Pool::Nothing,
-        PoolObject::Object(n) => pool_of(objects, slots, shape, store::object_of(objects, n)),
+        None => None,
+        Some(n) => pool_of(objects, slots, shape, store::object_of(objects, n)),
     }
 }
 
 // The pool that a slot refers to.
 #[tactic(auto, unfolding(crate::specs::Pool::pool_by))]
-fn pool_by(objects: &[u8], found: SlotAt) -> Pool
+fn pool_by(objects: &[u8], found: Option<SlotValue>) -> Option<PoolSlots>
     ensures { result ≡ pool_by objects.now found }
 {
-    let SlotAt::At(value) = found else {
-        return Pool::Nothing;
+    let Some(value) = found else {
+        return None;
     };
     let SlotValue::Object(n) = value else {
-        return Pool::Nothing;
+        return None;
     };
     let object = store::object_of(objects, n as usize);
-    Pool::At(PoolSlots {
+    Some(PoolSlots {
         first: object.first,
         count: object.count,
     })
 }
 
 // Number 16 at the instruction's start.
-pub fn table_check(table: Table, at: usize) -> Check
+pub fn table_check(table: Result<Option<Entries>, BadSwitch>, at: usize) -> Result<(), Refusal>
     ensures { result ≡ table_check table at }
 {
     match table {
-        Table::Nothing => Check::Ok,
-        Table::At(_) => Check::Ok,
-        Table::Refused => Check::Refused(Refusal {
-            number: refusal::BAD_SWITCH,
+        Ok(None) => Ok(()),
+        Ok(Some(_)) => Ok(()),
+        Err(BadSwitch) => Err(Refusal {
+            fault: Fault::BadSwitch,
             place: at,
         }),
     }

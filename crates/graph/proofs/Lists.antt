@@ -5,11 +5,11 @@ use mathlib.Core.Bool.{Bool, true, false, cond, ◌&&◌, ◌||◌}
 use mathlib.Core.List.Memᴰ
 use mathlib.Core.List.{List, [], ◌∷◌, Memᴰ as Among}
 use mathlib.Core.Logic.{◌⊎◌, inl, inr, ⊎_elim}
-use mathlib.Core.Option.{none, some}
+use Rattle.std.specs.Prelude.{None, Some, slice_get}
 use native.Mathlib.Omega.{arith}
 use borrow.Author.Tests.{eqb-true, eq-eqb}
 use lib.Dec.{eqb}
-use lib.ListN.{length, get_elem?}
+use lib.ListN.{length}
 use Rattle.laws.proofs.Tests.{by_test, either, clash, or_either}
 use Rattle.graph.specs.Lists.{any, keep, elem, first}
 use Rattle.graph.specs.Graph.{Rising}
@@ -21,7 +21,7 @@ pub or_right : (a : Bool) {b : Bool} → b ≡ true → (a || b) ≡ true
 or_right true h = refl
 or_right false h = h
 
-pub none_some : {A B : Type 0} {x : A} → none ≡ some x → B
+pub none_some : {A B : Type 0} {x : A} → None ≡ Some x → B
 none_some e = let z : ◌≡◌ {A = ℕ} 0 1 = cc in absurd (omega arith)
 
 -- ---- what passes, and where it stands
@@ -43,13 +43,13 @@ module _ {A : Type 0} (p : A → Bool) where
   none_among {x} e i = ⊎_elim (λ h. clash (among_any i h) e) (λ h. h) (either (p x))
 
 module _ {A : Type 0} where
-  pub at_among : (l : List A) (k : ℕ) {x : A} → get_elem? l k ≡ some x → Among x l
+  pub at_among : (l : List A) (k : ℕ) {x : A} → slice_get l k ≡ Some x → Among x l
   at_among [] k e = none_some e
   at_among (y ∷ l) zero {x} e = let z : x ≡ y = cc in Among.head z
   at_among (y ∷ l) (suc k) e = Among.tail (at_among l k e)
 
-  pub among_at : {x : A} {l : List A} → Among x l → (k : ℕ) × (get_elem? l k ≡ some x)
-  among_at (Among.head e) = (0, ap some (sym e))
+  pub among_at : {x : A} {l : List A} → Among x l → (k : ℕ) × (slice_get l k ≡ Some x)
+  among_at (Among.head e) = (0, ap Some (sym e))
   among_at (Among.tail i) = let k = among_at i in (suc k.0, k.1)
 
 -- ---- numbers

@@ -3,7 +3,7 @@ use mathlib.Core.Path.{◌≡◌, refl, sym, ap, ◌∙◌, subst}
 use mathlib.Core.Bool.{Bool, true, false, cond}
 use mathlib.Core.List.{List}
 use mathlib.Core.Logic.{inl, inr, ⊎_elim}
-use mathlib.Core.Option.{Option, none, some}
+use Rattle.std.specs.Prelude.{Option, None, Some}
 use Prim.Native.Nat.{ℕ, ◌+◌, ◌≤◌, ◌<◌}
 use native.Mathlib.Nat.{le_refl}
 use native.Mathlib.Omega.{arith}
@@ -32,8 +32,8 @@ module _ (g : Graph) (q : List ℕ) (lo i : ℕ) where
   }
 
   lowest_skip : (f : Option ℕ) → Lowest g q lo i f → exits g (get_or q i 0) ≡ false → Lowest g q lo (i + 1) f
-  lowest_skip (some o) w quiet = keep w (λ x. clash x quiet)
-  lowest_skip none w quiet = entries_more (λ j. exits g (get_or q j 0) ≡ false) w quiet
+  lowest_skip (Some o) w quiet = keep w (λ x. clash x quiet)
+  lowest_skip None w quiet = entries_more (λ j. exits g (get_or q j 0) ≡ false) w quiet
 
   module _ (from : lo ≤ i) (x : exits g (get_or q i 0) ≡ true) where
     take : ((j : ℕ) → lo ≤ j → j < i → exits g (get_or q j 0) ≡ true → get_or q i 0 ≤ get_or q j 0) → LowestAt g q lo (i + 1) (get_or q i 0)
@@ -46,13 +46,13 @@ module _ (g : Graph) (q : List ℕ) (lo i : ℕ) where
       least = entries_more (λ j. exits g (get_or q j 0) ≡ true → get_or q i 0 ≤ get_or q j 0) h (λ _. le_refl _);
     }
 
-    picked : (p : ℕ) (b : Bool) → leb p (get_or q i 0) ≡ b → LowestAt g q lo i p → Lowest g q lo (i + 1) (cond b (some p) (some (get_or q i 0)))
+    picked : (p : ℕ) (b : Bool) → leb p (get_or q i 0) ≡ b → LowestAt g q lo i p → Lowest g q lo (i + 1) (cond b (Some p) (Some (get_or q i 0)))
     picked p true e w = keep w (λ _. leb-true _ _ e)
     picked p false e w = take (λ j l u y. omega (arith, w.least j l u y, leb-false p (get_or q i 0) e))
 
     lowest_more : (f : Option ℕ) → Lowest g q lo i f → Lowest g q lo (i + 1) (lower_of f (get_or q i 0))
-    lowest_more (some p) w = picked p (leb p (get_or q i 0)) refl w
-    lowest_more none w = take (λ j l u y. clash y (w j l u))
+    lowest_more (Some p) w = picked p (leb p (get_or q i 0)) refl w
+    lowest_more None w = take (λ j l u y. clash y (w j l u))
 
   -- the same, as the code has it: o is the entry, and r what `lower` makes of f and o
   pub lowest_found : (f r : Option ℕ) (o : ℕ) → o ≡ get_or q i 0 → lo ≤ i → exits g o ≡ true → r ≡ lower_of f o → Lowest g q lo i f → Lowest g q lo (i + 1) r

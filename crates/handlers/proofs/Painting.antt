@@ -1,30 +1,14 @@
 -- A record's number said of the places that it holds: filling, by blocks and place by place, and record over record. Assumes nothing.
-use Prim.Native.Nat.{ℕ, zero, suc, ◌+◌, ◌*◌, ◌/◌, ◌≤◌, ◌<◌, min, max}
-use mathlib.Core.Path.{◌≡◌, refl, sym, ap, ◌∙◌}
-use mathlib.Core.Bool.{cond, ◌&&◌}
+use Prim.Native.Nat.{ℕ, zero, suc, ◌+◌, ◌*◌, ◌/◌, ◌≤◌, ◌<◌, max}
+use mathlib.Core.Path.{◌≡◌, refl, ap, ◌∙◌}
+use mathlib.Core.Bool.{cond}
 use mathlib.Core.List.{List}
 use mathlib.Core.Logic.{inl, inr, ⊎_elim}
 use native.Mathlib.Omega.{arith}
-use borrow.Author.Tests.{le-leb, lt-leb, lt-ltb, le-ltb, leb-true, ltb-true}
-use lib.Dec.{leb, ltb}
-use lib.ListN.{length, get_or, set, replicate, get_or-replicate}
-use lib.Seq.{get_or-set_same, get_or-set_other}
-use Rattle.laws.proofs.Tests.{by_test, and_left, and_right, under?, same?}
+use lib.ListN.{length, get_or, replicate, get_or-replicate}
+use Rattle.laws.proofs.Tests.{by_test, under?}
 use Rattle.handlers.specs.Handlers.{range_start, range_end, is_held}
-use Rattle.handlers.specs.mirror.Catches.{last_of, top, Painted, Filled, Said, Laid}
-
--- ---- filling
-pub filled_none : (S : List ℕ) (a v : ℕ) → Filled S S a a v
-filled_none S a v = record { inside = λ i h l. absurd (omega (arith, h, l)); outside = λ i x. refl }
-
-pub filled_more : {S S' : List ℕ} {a i v : ℕ} → a ≤ i → i < length S' → Filled S S' a i v → Filled S (set S' i v) a (i + 1) v
-filled_more {S} {S'} {a} {i} {v} h room F = record {
-  inside = λ k l u. ⊎_elim
-      (λ (e : k ≡ i). ap (λ (x : ℕ). get_or (set S' i v) x 0) e ∙ get_or-set_same S' i v 0 room)
-      (λ (x : k ≡ i → ⊥). get_or-set_other S' i k v 0 x ∙ F.inside k l (omega (arith, u, x)))
-      (same? k i);
-  outside = λ k x. get_or-set_other S' i k v 0 (⊎_elim (λ l e. omega (arith, l, e, h)) (λ l e. omega (arith, l, e)) x) ∙ F.outside k (⊎_elim (λ l. inl l) (λ l. inr (omega (arith, l))) x);
-}
+use Rattle.handlers.specs.mirror.Catches.{last_of, Painted, Filled, Said, Laid}
 
 -- ---- by blocks and place by place
 -- the higher of two, of which one is v
@@ -36,12 +20,6 @@ right_is p b v h = omega (arith, h)
 
 both_are : {p b p' b' : ℕ} → p' ≡ p → b' ≡ b → max p' b' ≡ max p b
 both_are h i = omega (arith, h, i)
-
-pub said_places : {P P' : List ℕ} (B : List ℕ) {a e v : ℕ} → Filled P P' a e v → Said P B P' B a e v
-said_places {P} B {v = v} F = record {
-  inside = λ o l u h. both_are (F.inside o l u) refl ∙ left_is (get_or P o 0) (get_or B (o / 256) 0) v h;
-  outside = λ o x. both_are (F.outside o x) refl;
-}
 
 module _ {P P₁ P' B B' : List ℕ} {a e f l v : ℕ} (first : f ≡ (a + 255) / 256) (last : l ≡ e / 256) (order : f ≤ l) (A : Filled P P₁ a (f * 256) v) (M : Filled B B' f l v)
     (E : Filled P₁ P' (l * 256) e v) where
@@ -73,22 +51,6 @@ module _ {P P₁ P' B B' : List ℕ} {a e f l v : ℕ} (first : f ≡ (a + 255) 
         (λ (h : e ≤ o). both_are (E.outside o (inr h) ∙ A.outside o (inr (omega (arith, h, last, order)))) (M.outside (o / 256) (inr (omega (arith, h, last)))))
         x;
   }
-
--- ---- a record, as far as there are places
-pub laid_none : (P B : List ℕ) (a e v : ℕ) → min e (length P) ≤ a → Laid P B P B a e v
-laid_none P B a e v h o inside m = by_test (λ (x : ℕ). top P B o ≡ x) (leb a o && ltb o e) (λ t. absurd (none (leb-true a o (and_left (leb a o) (ltb o e) t)) (ltb-true o e (and_right (leb a o) (ltb o e) t)))) (λ _. refl)
-  where
-    none : a ≤ o → o < e → ⊥
-    none x y = omega (arith, x, y, h, inside)
-
-pub laid_said : {P B P' B' : List ℕ} {a t v : ℕ} (e : ℕ) → t ≡ min e (length P) → Said P B P' B' a t v → Laid P B P' B' a e v
-laid_said {P} {B} {P'} {B'} {a} {t} {v} e is S o inside m = ⊎_elim
-    (λ h. S.outside o (inl h) ∙ sym (rw (lt-leb a o h) refl))
-    (λ h. ⊎_elim
-    (λ u. S.inside o h (omega (arith, is, u, inside)) m ∙ sym (rw (le-leb a o h, lt-ltb o e u) refl))
-    (λ u. S.outside o (inr (omega (arith, is, u))) ∙ sym (rw (le-leb a o h, le-ltb o e u) refl))
-    (under? o e))
-    (under? o a)
 
 -- ---- record over record
 pub last-le : (s : List ℕ) (o n : ℕ) → last_of s o n ≤ n

@@ -1,16 +1,15 @@
 -- The word of a place: by the number of the last record that holds it, and of what stands there. Assumes nothing.
-use Prim.Native.Nat.{ℕ, zero, suc, ◌+◌, ◌-◌, ◌*◌, ◌/◌, ◌≤◌, ◌<◌, min, max}
+use Prim.Native.Nat.{ℕ, zero, suc, ◌+◌, ◌/◌, ◌≤◌, ◌<◌, max}
 use mathlib.Core.Path.{◌≡◌, refl, sym, ap, ◌∙◌}
 use mathlib.Core.Bool.{Bool, true, false, cond}
 use mathlib.Core.List.{List}
 use mathlib.Core.Logic.{⊎_elim}
-use mathlib.Core.Option.{some}
+use Rattle.std.specs.Prelude.{Some}
 use native.Mathlib.Nat.{le_refl}
 use native.Mathlib.Omega.{arith}
 use lib.ListN.{length, get_or, set, length-set}
 use lib.Seq.{get_or-set_same, get_or-set_other}
 use Rattle.laws.proofs.Tests.{same?}
-use Rattle.words.specs.Le.{le_at}
 use Rattle.flow.specs.Flow.{is_return}
 use Rattle.handlers.specs.Handlers.{handler_count, handler_offset, is_held, handler_among}
 use Rattle.handlers.specs.mirror.Catches.{handler_word, catch_word, opcode_at, last_of, word_by, top, Painted, Caught}
@@ -21,25 +20,9 @@ word_last s o zero = refl
 word_last s o (suc n) = go (is_held s o n) (word_last s o n)
   where
     go : (b : Bool) → word_by s (last_of s o n) ≡ handler_word (handler_among s o n)
-        → word_by s (cond b (suc n) (last_of s o n)) ≡ handler_word (cond b (some (handler_offset s n)) (handler_among s o n))
+        → word_by s (cond b (suc n) (last_of s o n)) ≡ handler_word (cond b (Some (handler_offset s n)) (handler_among s o n))
     go true h = refl
     go false h = h
-
--- the word by a number r, from the number that was read at its record
-pub word_none : (s : List ℕ) {r : ℕ} (returns : Bool) → r ≡ 0 → 0 ≡ cond returns 0 (word_by s r)
-word_none s true e = refl
-word_none s false e = sym (ap (word_by s) e)
-
-module _ (s : List ℕ) (r w : ℕ) (some-record : r ≡ 0 → ⊥) (is : w ≡ le_at s ((r - 1) * 12 + 8) 4) where
-  word_at_lem : word_by s r ≡ suc (min w 65536)
-  word_at_lem = go r some-record is
-    where
-      go : (r : ℕ) → (r ≡ 0 → ⊥) → w ≡ le_at s ((r - 1) * 12 + 8) 4 → word_by s r ≡ suc (min w 65536)
-      go zero h e = absurd (h refl)
-      go (suc r) h e = let z : suc r - 1 ≡ r = omega arith in ap (λ (x : ℕ). suc (min x 65536)) (sym (e ∙ ap (λ (x : ℕ). le_at s (x * 12 + 8) 4) z))
-
-  pub word_is : {v : ℕ} → v ≡ min w 65536 → v + 1 ≡ word_by s r
-  word_is h = omega (arith, h, word_at_lem)
 
 -- ---- one after the other
 module _ (code ops s B : List ℕ) (wide extra : ℕ) (C₀ : List ℕ) where

@@ -1,8 +1,9 @@
 -- Handler records. 02, Wish 5: "Lend handler records of 12 bytes: start, end, handler offset, each 4 bytes."
 use Rattle.std.specs.Prelude.{ℕ, zero, suc, ◌+◌, ◌*◌, ◌/◌, ◌%◌, Bool, cond, not, ◌&&◌, List, eqb, leb, ltb, length}
-use mathlib.Core.Option.{Option, none, some}
+use Rattle.std.specs.Prelude.{Option, None, Some}
 use Rattle.words.specs.Le.{le_at}
-use Rattle.refusal.specs.declared.Check.{Check}
+use Rattle.refusal.specs.Check.{Check}
+use Rattle.refusal.specs.declared.Fault.TheVariants as fault
 use Rattle.refusal.specs.Check.{first_refusal, refuse_unless, first_bad}
 
 abbrev pub handler_size : ℕ
@@ -30,8 +31,8 @@ is_held s o r = leb (range_start s r) o && ltb o (range_end s r)
 
 -- the handler by the last of the first n records that holds o
 unfoldable pub handler_among : List ℕ → ℕ → ℕ → Option ℕ
-handler_among s o zero = none
-handler_among s o (suc r) = cond (is_held s o r) (some (handler_offset s r)) (handler_among s o r)
+handler_among s o zero = None
+handler_among s o (suc r) = cond (is_held s o r) (Some (handler_offset s r)) (handler_among s o r)
 
 -- "the last record that holds the offset is the one used". V8: HandlerTable::LookupRange.
 abbrev pub handler_at : List ℕ → ℕ → Option ℕ
@@ -46,4 +47,4 @@ abbrev pub bad_handler : List ℕ → ℕ → ℕ → Bool
 bad_handler s len r = not (ltb (range_start s r) (range_end s r) && leb (range_end s r) len)
 
 unfoldable pub check_handlers : List ℕ → ℕ → Check
-check_handlers s len = first_refusal (refuse_unless (handlers_whole (length s)) 24) (first_bad 25 (bad_handler s len) (handler_count s))
+check_handlers s len = first_refusal (refuse_unless (handlers_whole (length s)) fault.HandlersSize) (first_bad fault.BadHandler (bad_handler s len) (handler_count s))

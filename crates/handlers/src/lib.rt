@@ -6,8 +6,10 @@ ghost use Rattle.refusal.specs.Check.{first_bad};
 ghost use Rattle.flow.specs.Flow.{is_return};
 ghost use Rattle.handlers.specs.Handlers.{handler_count, range_start, range_end, handlers_whole, bad_handler, check_handlers};
 ghost use Rattle.handlers.specs.mirror.Catches.{opcode_at, word_by, Painted, Filled, Said, Laid, Caught, Fits};
+ghost use Rattle.refusal.specs.Check.{Check};
+ghost use Rattle.refusal.specs.declared.Fault.TheVariants as fault;
 
-use refusal::{Check, Refusal};
+use refusal::{Fault, Refusal};
 
 // A record in bytes, and how many there may be.
 const HANDLER_SIZE: usize = 12;
@@ -21,15 +23,11 @@ const MOST_CODE: usize = 65536;
 const BLOCK: usize = 256;
 
 // Checks 24 and 25, for a code of so many bytes.
-pub fn check_handlers(handlers: &[u8], len: usize) -> Check
+#[tactic(auto, unfolding(crate::specs::Handlers::check_handlers))]
+pub fn check_handlers(handlers: &[u8], len: usize) -> Result<(), Refusal>
     ensures { result ≡ check_handlers handlers.now len }
 {
-    if !are_whole(handlers.len()) {
-        return Check::Refused(Refusal {
-            number: refusal::HANDLERS_SIZE,
-            place: 0,
-        });
-    }
+    refusal::refuse_unless(are_whole(handlers.len()), Fault::HandlersSize)?;
     check_ranges(handlers, len)
 }
 
@@ -37,25 +35,20 @@ pub fn check_handlers(handlers: &[u8], len: usize) -> Check
 fn are_whole(n: usize) -> bool
     ensures { result ≡ handlers_whole n }
 {
-    if n % HANDLER_SIZE != 0 {
-        return false;
-    }
-    n / HANDLER_SIZE <= MOST_HANDLERS
+    n % HANDLER_SIZE == 0 && n / HANDLER_SIZE <= MOST_HANDLERS
 }
 
 // The first record whose range is empty or ends beyond the code.
-fn check_ranges(handlers: &[u8], len: usize) -> Check
-    ensures { result ≡ first_bad 25 (bad_handler handlers.now len) (handler_count handlers.now) }
+fn check_ranges(handlers: &[u8], len: usize) -> Result<(), Refusal>
+    ensures { result ≡ first_bad fault.BadHandler (bad_handler handlers.now len) (handler_count handlers.now) }
 {
     let n = handlers.len() / HANDLER_SIZE;
-    let mut i = 0;
-    while i < n {
+    for i in 0..n {
         if !is_range(handlers, i, len) {
-            return refusal::at_record(refusal::BAD_HANDLER, i, n);
+            return refusal::at_record(Fault::BadHandler, i, n);
         }
-        i += 1;
     }
-    refusal::at_record(refusal::BAD_HANDLER, i, n)
+    Ok(())
 }
 
 fn is_range(handlers: &[u8], r: usize, len: usize) -> bool
@@ -65,10 +58,7 @@ fn is_range(handlers: &[u8], r: usize, len: usize) -> bool
     let at = r * HANDLER_SIZE;
     let start = words::u32_at(handlers, at);
     let end = words::u32_at(handlers, at + 4);
-    if end <= start {
-        return false;
-    }
-    end as usize <= len
+    start < end && end as usize <= len
 }
 
 // The word of each place of a code, in room of zeros for it (specs/mirror/Catches.antt); in other room nothing is promised. Without records the zeros
@@ -84,16 +74,13 @@ pub fn catch_table(
     ensures { Fits code.now handlers.now catches.old
         → Caught code.now opcodes.now handlers.now wide extra catches.new }
 {
-    if catches.len() != code.len() {
+    if catches.len() != code.len()
+        || MOST_CODE < code.len()
+        || MOST_HANDLERS * HANDLER_SIZE < handlers.len()
+    {
         return;
     }
-    if MOST_CODE < code.len() {
-        return;
-    }
-    if MOST_HANDLERS * HANDLER_SIZE < handlers.len() {
-        return;
-    }
-    if handlers.len() == 0 {
+    if handlers.is_empty() {
         return;
     }
     let mut blocks = [0u32; 256];
@@ -126,13 +113,11 @@ fn paint_all(handlers: &[u8], places: &mut [u32], blocks: &mut [u32])
         → Painted handlers.now places.new blocks.new (handler_count handlers.now) }
 {
     let n = handlers.len() / HANDLER_SIZE;
-    let mut r: usize = 0;
-    while r < n {
+    for r in 0..n {
         let at = r * HANDLER_SIZE;
         let start = words::u32_at(handlers, at);
         let end = words::u32_at(handlers, at + 4);
-        r += 1;
-        paint_within(places, blocks, start, end, r as u32);
+        paint_within(places, blocks, start, end, r as u32 + 1);
     }
 }
 
@@ -141,7 +126,7 @@ fn paint_within(places: &mut [u32], blocks: &mut [u32], start: u32, end: u32, v:
     requires { (length places.old ≤ 65536) × (length blocks.old ≡ 256) }
     ensures { Laid places.old blocks.old places.new blocks.new start end v }
 {
-    let to = text::min(end as usize, places.len());
+    let to = (end as usize).min(places.len());
     if to <= start as usize {
         return;
     }
@@ -163,15 +148,12 @@ fn paint(places: &mut [u32], blocks: &mut [u32], from: usize, to: usize, v: u32)
     fill(places, last * BLOCK, to, v);
 }
 
+// A function of its own, since its contract says place by place what paint needs of each of its four calls.
 fn fill(table: &mut [u32], from: usize, to: usize, v: u32)
     requires { (from ≤ to) × (to ≤ length table.old) }
     ensures { Filled table.old table.new from to v }
 {
-    let mut i = from;
-    while i < to {
-        table[i] = v;
-        i += 1;
-    }
+    table[from..to].fill(v);
 }
 
 // The word of each place, where its record was.
@@ -188,18 +170,10 @@ fn catch_all(
     ensures { Painted handlers.now catches.old blocks.now (handler_count handlers.now)
         → Caught code.now opcodes.now handlers.now wide extra catches.new }
 {
-    let mut o: usize = 0;
-    while o < catches.len() {
-        let r = higher(catches[o], blocks[o / BLOCK]);
+    for o in 0..catches.len() {
+        let r = catches[o].max(blocks[o / BLOCK]);
         catches[o] = catch_at(code, opcodes, handlers, wide, extra, o, r);
-        o += 1;
     }
-}
-
-fn higher(a: u32, b: u32) -> u32
-    ensures { result ≡ max a b }
-{
-    if a < b { b } else { a }
 }
 
 // The word of the instruction at o by the number, and one, of the last record that holds it.
@@ -223,7 +197,7 @@ fn catch_at(
     }
     let at = (r - 1) as usize * HANDLER_SIZE + 8;
     let offset = words::u32_at(handlers, at);
-    text::min(offset as usize, MOST_CODE) as u32 + 1
+    offset.min(MOST_CODE as u32) + 1
 }
 
 // The opcode of what stands at o: behind a prefix the next byte.
@@ -232,10 +206,7 @@ fn opcode_at(code: &[u8], wide: usize, extra: usize, o: usize) -> u8
     ensures { result ≡ opcode_at code.now wide extra o }
 {
     let b = code[o];
-    if b as usize == wide {
-        return words::byte_at(code, o + 1);
-    }
-    if b as usize == extra {
+    if b as usize == wide || b as usize == extra {
         return words::byte_at(code, o + 1);
     }
     b

@@ -22,8 +22,11 @@ use Rattle.header.specs.Header.{header_with, header_by}
 use Rattle.header.specs.Slots.{smi_by, field_num}
 use Rattle.header.specs.Calls.{header_call, smi_call, num_call}
 use Rattle.header.specs.Numbers.{header_numbers, smi_slot_numbers, num_field_numbers}
-use Rattle.header.specs.declared.HeaderAnswer.{HeaderAnswer}
-use Rattle.header.specs.declared.HeaderAnswer.TheVariants as header-answer
+use Rattle.std.specs.Prelude.{Result, Ok}
+use Rattle.refusal.specs.declared.Refusal.{Refusal}
+use Rattle.header.specs.declared.Header.{Header}
+use Rattle.refusal.specs.declared.Fault.{Fault}
+use Rattle.refusal.specs.declared.Fault.TheVariants as fault
 
 -- a number in four bytes, and one below 0
 abbrev four : ℕ → List ℕ
@@ -55,11 +58,11 @@ layout ts direct =
 abbrev length : ℕ → List ℕ
 length n = four 0 ++ four n
 
-abbrev header : ℕ → ℕ → List ℕ → ℕ → HeaderAnswer
+abbrev header : ℕ → ℕ → List ℕ → ℕ → Result Header Refusal
 header ts direct start size = header_call (object 1) slot (payload start size) (layout ts direct) 0
 
 -- 01's sample
-pub sample : header 8 0 (length 5) 8 ≡ header-answer.At (record {
+pub sample : header 8 0 (length 5) 8 ≡ Ok (record {
   length = 5;
   parameter_count = pos 1;
   register_count = 1;
@@ -76,10 +79,10 @@ sample = refl
 abbrev of : ℕ → ℤ → ℕ → ℕ → Numbers
 of length parameters code-at code-len = answered (pos length ∷ parameters ∷ pos 1 ∷ pos 8 ∷ pos 0 ∷ pos 0 ∷ pos code-at ∷ pos code-len ∷ [])
 
-abbrev refused : ℕ → Numbers
-refused number = refusal_numbers (refusal_at number 0)
+abbrev refused : Fault → Numbers
+refused f = refusal_numbers (refusal_at f 0)
 
-abbrev headers : List HeaderAnswer
+abbrev headers : List (Result Header Refusal)
 headers =
     -- parameter size -9: count -1; direct: its low 16 bits
     header 8 0 (length 5) (minus 9)
@@ -104,9 +107,9 @@ headers =
 pub header_cases : map header_numbers headers ≡
     of 5 (negsuc 0) 46 5 ∷ of 5 (pos 65527) 46 5
     ∷ of 5 (pos 1) 46 5
-    ∷ of 65536 (pos 1) 0 0 ∷ of 0 (pos 1) 46 0 ∷ refused 9 ∷ refused 9
-    ∷ refused 8 ∷ refused 8
-    ∷ refused 1 ∷ refused 5 ∷ refused 1 ∷ refused 5 ∷ []
+    ∷ of 65536 (pos 1) 0 0 ∷ of 0 (pos 1) 46 0 ∷ refused fault.BadLength ∷ refused fault.BadLength
+    ∷ refused fault.NoObject ∷ refused fault.NoObject
+    ∷ refused fault.TableSize ∷ refused fault.BadLayout ∷ refused fault.TableSize ∷ refused fault.BadLayout ∷ []
 unfolding header_call header_by header_with layout_of check_layout_file whole_records within ranges range_of check_store sizes_ok object_ok fields_ok value_ok slot_ok falls_in falls first_from le_at slot_of object_of raw_at down smi_bytes rt_off
 header_cases = refl
 

@@ -6,10 +6,10 @@ use mathlib.Core.List.{List}
 use native.Mathlib.Omega.{arith}
 use lib.IntN.{ℤ, nat_abs}
 use lib.ListN.{length}
-use Rattle.refusal.specs.declared.Check.TheVariants.{Ok}
+use Rattle.std.specs.Prelude.{Option, Some, None, Ok, Err}
+use Rattle.refusal.specs.declared.Fault.TheVariants as fault
 use Rattle.refusal.specs.Check.{refusal_at}
 use Rattle.store.specs.Records.{object_of}
-use Rattle.serializer.specs.declared.RawAt.{RawAt}
 use Rattle.serializer.specs.Field.{raw_at}
 use Rattle.serializer.proofs.Inside.{raw_inside}
 use Rattle.layout.specs.declared.Layout.{Layout}
@@ -18,19 +18,17 @@ use Rattle.header.specs.Calls.{check_code}
 use Rattle.header.specs.declared.Header.{Header}
 use Rattle.header.proofs.Laws.{length_small}
 use Rattle.header.proofs.Searched.{code_checked}
-use Rattle.serializer.specs.declared.RawAt.TheVariants as raw_case
-use Rattle.header.specs.declared.HeaderAnswer.TheVariants as header-answer
 
 -- code inside a payload
 pub record Inside (p : List ℕ) (h : Header) : Type 0 where
   pub within : h.code_at + h.code_len ≤ length p
   pub short : h.code_len ≤ 65536
 
-pub code_inside : (o s p : List ℕ) (k : ℕ) (l : Layout) {h : Header} → check_code o s p k ≡ Ok → header_of s p (object_of o k) l ≡ header-answer.At h → Inside p h
+pub code_inside : (o s p : List ℕ) (k : ℕ) (l : Layout) {h : Header} → check_code o s p k ≡ Ok tt → header_of s p (object_of o k) l ≡ Ok h → Inside p h
 unfolding header_by header_with
 code_inside o s p k l {h} ok e = go (length_ok z) refl e
   where
-    raw : ℕ → ℕ → RawAt
+    raw : ℕ → ℕ → Option ℕ
     raw = raw_at s (object_of o k).first (object_of o k).count l.tagged_size
 
     rt : ℕ → ℕ
@@ -39,12 +37,12 @@ code_inside o s p k l {h} ok e = go (length_ok z) refl e
     z : ℤ
     z = length_by p raw rt l
 
-    found : (x : RawAt) → raw (rt l.header_size) (nat_abs z) ≡ x → nat_abs z ≤ 65536
+    found : (x : Option ℕ) → raw (rt l.header_size) (nat_abs z) ≡ x → nat_abs z ≤ 65536
         → ((code_span x (nat_abs z)).at + (code_span x (nat_abs z)).len ≤ length p) × ((code_span x (nat_abs z)).len ≤ 65536)
-    found (raw_case.At a) f m = (raw_inside o s p k l.tagged_size (rt l.header_size) (nat_abs z) (code_checked o s p k ok) f, m)
-    found raw_case.Nothing f m = (omega arith, omega arith)
+    found (Some a) f m = (raw_inside o s p k l.tagged_size (rt l.header_size) (nat_abs z) (code_checked o s p k ok) f, m)
+    found None f m = (omega arith, omega arith)
 
-    go : (t : Bool) → length_ok z ≡ t → cond t (header-answer.At (header_with p raw rt l (nat_abs z))) (header-answer.Refused (refusal_at 9 0)) ≡ header-answer.At h → Inside p h
+    go : (t : Bool) → length_ok z ≡ t → cond t (Ok (header_with p raw rt l (nat_abs z))) (Err (refusal_at fault.BadLength 0)) ≡ Ok h → Inside p h
     go true f g =
         let same : header_with p raw rt l (nat_abs z) ≡ h = cc in
         let both = found (raw (rt l.header_size) (nat_abs z)) refl (length_small z f) in

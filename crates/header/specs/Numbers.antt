@@ -1,19 +1,14 @@
 -- The answers of the calls in 01's numbers.
-use Rattle.std.specs.Prelude.{[], ◌∷◌, pos}
+use Rattle.std.specs.Prelude.{ℤ, ℕ, [], ◌∷◌, pos}
 use Rattle.refusal.specs.Numbers.{Numbers, refusal_numbers, answered, finds, finds_nothing}
 use Rattle.serializer.specs.Numbers.{smi_numbers}
-use Rattle.header.specs.declared.HeaderAnswer.{HeaderAnswer}
-use Rattle.header.specs.declared.HeaderAnswer.TheVariants as header-answer
-use Rattle.header.specs.declared.Num.{Num}
-use Rattle.header.specs.declared.Num.TheVariants as num
-use Rattle.header.specs.declared.SmiAnswer.{SmiAnswer}
-use Rattle.header.specs.declared.SmiAnswer.TheVariants as smi-answer
-use Rattle.header.specs.declared.NumAnswer.{NumAnswer}
-use Rattle.header.specs.declared.NumAnswer.TheVariants as num-answer
+use Rattle.std.specs.Prelude.{Option, Some, None, Result, Ok, Err}
+use Rattle.refusal.specs.declared.Refusal.{Refusal}
+use Rattle.header.specs.declared.Header.{Header}
 
 -- the lines of the listing in their order, then the code's place in the payload and its length
-abbrev pub header_numbers : HeaderAnswer → Numbers
-header_numbers (header-answer.At h) =
+abbrev pub header_numbers : Result Header Refusal → Numbers
+header_numbers (Ok h) =
     answered
     (pos h.length
     ∷ h.parameter_count
@@ -24,16 +19,16 @@ header_numbers (header-answer.At h) =
     ∷ pos h.code_at
     ∷ pos h.code_len
     ∷ [])
-header_numbers (header-answer.Refused r) = refusal_numbers r
+header_numbers (Err r) = refusal_numbers r
 
-abbrev pub smi_slot_numbers : SmiAnswer → Numbers
-smi_slot_numbers (smi-answer.Smi v) = smi_numbers v
-smi_slot_numbers (smi-answer.Refused r) = refusal_numbers r
+abbrev pub smi_slot_numbers : Result (Option ℤ) Refusal → Numbers
+smi_slot_numbers (Ok v) = smi_numbers v
+smi_slot_numbers (Err r) = refusal_numbers r
 
-abbrev pub num_numbers : Num → Numbers
-num_numbers (num.Is n) = finds (pos n ∷ [])
-num_numbers num.Nothing = finds_nothing
+abbrev pub num_numbers : Option ℕ → Numbers
+num_numbers (Some n) = finds (pos n ∷ [])
+num_numbers None = finds_nothing
 
-abbrev pub num_field_numbers : NumAnswer → Numbers
-num_field_numbers (num-answer.Num n) = num_numbers n
-num_field_numbers (num-answer.Refused r) = refusal_numbers r
+abbrev pub num_field_numbers : Result (Option ℕ) Refusal → Numbers
+num_field_numbers (Ok n) = num_numbers n
+num_field_numbers (Err r) = refusal_numbers r

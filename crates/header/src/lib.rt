@@ -3,7 +3,7 @@
 // which on a checked store finds the same.
 #![tactic(auto)]
 
-ghost use Rattle.std.specs.Prelude.{◌≡◌, false};
+ghost use Rattle.std.specs.Prelude.{◌≡◌};
 ghost use Rattle.serializer.specs.mirror.Search.{raw_searched};
 ghost use Rattle.serializer.specs.Length.{smi_field};
 ghost use Rattle.serializer.specs.Calls.{check_at};
@@ -13,12 +13,10 @@ ghost use Rattle.header.specs.Slots.{slot_by, untested, smi_raw, smi_by, plain_n
 ghost use Rattle.header.specs.Calls.{check_code, check_header, header_call, smi_call, num_call};
 ghost use Rattle.header.specs.Numbers.{header_numbers, smi_slot_numbers, num_field_numbers};
 
-use refusal::{Check, Refusal};
-use serializer::{RawAt, Smi, Span};
+use refusal::{Fault, Refusal};
+use serializer::Span;
 use store::Object;
-use tables::{Field, Layout};
-
-// Answers.
+use tables::Layout;
 
 #[derive(Clone, Copy)]
 pub struct Header {
@@ -33,55 +31,26 @@ pub struct Header {
     pub code_len: usize,
 }
 
-#[derive(Clone, Copy)]
-pub enum HeaderAnswer {
-    At(Header),
-    Refused(Refusal),
-}
-
-// A number in a slot.
-#[derive(Clone, Copy)]
-pub enum Num {
-    Is(u32),
-    Nothing,
-}
-
-// Answers of the calls on a lent store.
-
-#[derive(Clone, Copy)]
-pub enum SmiAnswer {
-    Smi(Smi),
-    Refused(Refusal),
-}
-
-#[derive(Clone, Copy)]
-pub enum NumAnswer {
-    Num(Num),
-    Refused(Refusal),
-}
-
 // Calls on a lent store and an object number, with the checks of rows 6, 7 and 8.
 
 // The header of an object: rows 1 and 5 of the layout first; row 8 also where it is no BytecodeArray, then row 9.
+#[tactic(auto, unfolding(crate::specs::Calls::header_call))]
 pub fn header_at(
     objects: &[u8],
     slots: &[u8],
     payload: &[u8],
     layout: &[u8],
     object: usize,
-) -> HeaderAnswer
+) -> Result<Header, Refusal>
     ensures { header_numbers result
         ≡ header_numbers (header_call objects.now slots.now payload.now layout.now object) }
 {
-    match check_header(objects, slots, payload, layout, object) {
-        Check::Ok => {
-            let o = store::object_of(objects, object);
-            header_at_unchecked(slots, payload, o, tables::layout_of(layout))
-        }
-        Check::Refused(refusal) => HeaderAnswer::Refused(refusal),
-    }
+    check_header(objects, slots, payload, layout, object)?;
+    let o = store::object_of(objects, object);
+    header_at_unchecked(slots, payload, o, tables::layout_of(layout))
 }
 
+#[tactic(auto, unfolding(crate::specs::Calls::smi_call))]
 pub fn smi_slot(
     objects: &[u8],
     slots: &[u8],
@@ -89,19 +58,16 @@ pub fn smi_slot(
     ts: u8,
     object: usize,
     slot: u64,
-) -> SmiAnswer
+) -> Result<Option<i64>, Refusal>
     ensures { smi_slot_numbers result
         ≡ smi_slot_numbers (smi_call objects.now slots.now payload.now ts object slot) }
 {
-    match check_at(objects, slots, payload, object) {
-        Check::Ok => {
-            let o = store::object_of(objects, object);
-            SmiAnswer::Smi(smi_slot_unchecked(slots, payload, o.first, o.count, ts, slot))
-        }
-        Check::Refused(refusal) => SmiAnswer::Refused(refusal),
-    }
+    check_at(objects, slots, payload, object)?;
+    let o = store::object_of(objects, object);
+    Ok(smi_slot_unchecked(slots, payload, o.first, o.count, ts, slot))
 }
 
+#[tactic(auto, unfolding(crate::specs::Calls::num_call))]
 pub fn num_field(
     objects: &[u8],
     slots: &[u8],
@@ -110,67 +76,63 @@ pub fn num_field(
     object: usize,
     slot: u64,
     flags_smi: bool,
-) -> NumAnswer
+) -> Result<Option<u32>, Refusal>
     ensures { num_field_numbers result
         ≡ num_field_numbers (num_call objects.now slots.now payload.now ts object slot flags_smi) }
 {
-    match check_at(objects, slots, payload, object) {
-        Check::Ok => {
-            let o = store::object_of(objects, object);
-            NumAnswer::Num(num_field_unchecked(
-                slots, payload, o.first, o.count, ts, slot, flags_smi,
-            ))
-        }
-        Check::Refused(refusal) => NumAnswer::Refused(refusal),
-    }
+    check_at(objects, slots, payload, object)?;
+    let o = store::object_of(objects, object);
+    Ok(num_field_unchecked(slots, payload, o.first, o.count, ts, slot, flags_smi))
 }
 
-fn check_at(objects: &[u8], slots: &[u8], payload: &[u8], object: usize) -> Check
+fn check_at(objects: &[u8], slots: &[u8], payload: &[u8], object: usize) -> Result<(), Refusal>
     ensures { result ≡ check_at objects.now slots.now payload.now object }
 {
-    refusal::first_refusal(
-        store::check_store(objects, slots, payload),
-        store::check_object(objects, object),
-    )
+    store::check_store(objects, slots, payload)?;
+    store::check_object(objects, object)
 }
 
-fn check_code(objects: &[u8], slots: &[u8], payload: &[u8], object: usize) -> Check
+fn check_code(objects: &[u8], slots: &[u8], payload: &[u8], object: usize) -> Result<(), Refusal>
     ensures { result ≡ check_code objects.now slots.now payload.now object }
 {
-    refusal::first_refusal(
-        store::check_store(objects, slots, payload),
-        store::check_code_object(objects, object),
-    )
+    store::check_store(objects, slots, payload)?;
+    store::check_code_object(objects, object)
 }
 
 // The checks of the layout, then those of the store.
-fn check_header(objects: &[u8], slots: &[u8], payload: &[u8], layout: &[u8], object: usize) -> Check
+fn check_header(
+    objects: &[u8],
+    slots: &[u8],
+    payload: &[u8],
+    layout: &[u8],
+    object: usize,
+) -> Result<(), Refusal>
     ensures { result ≡ check_header objects.now slots.now payload.now layout.now object }
 {
-    let table = tables::check_layout_file(layout);
-    refusal::first_refusal(table, check_code(objects, slots, payload, object))
+    tables::check_layout_file(layout)?;
+    check_code(objects, slots, payload, object)
 }
 
 // The header.
 
 // The header of an object by its slots, or row 9.
+#[tactic(auto, unfolding(crate::specs::Header::header_by))]
 pub fn header_at_unchecked(
     slots: &[u8],
     payload: &[u8],
     object: Object,
     layout: Layout,
-) -> HeaderAnswer
+) -> Result<Header, Refusal>
     ensures { result ≡ header_searched slots.now payload.now object layout }
 {
     let length = length_of(slots, payload, object, layout);
     if !length_ok(length) {
-        return HeaderAnswer::Refused(Refusal {
-            number: refusal::BAD_LENGTH,
+        return Err(Refusal {
+            fault: Fault::BadLength,
             place: 0,
         });
     }
-    let n = words::unsigned_abs(length) as u32;
-    HeaderAnswer::At(header_with(slots, payload, object, layout, n))
+    Ok(header_with(slots, payload, object, layout, length as u32))
 }
 
 // The length field; 0 where it is not found or is no small integer.
@@ -187,9 +149,8 @@ fn length_of(slots: &[u8], payload: &[u8], object: Object, layout: Layout) -> i6
 fn length_off(slots: &[u8], object: Object, layout: Layout) -> u64
     ensures { result ≡ length_off (rt_for slots.now object layout) layout.tagged_size layout.length }
 {
-    let field = layout.length;
-    match field {
-        Field::At(off) => serializer::bca_rt_off_unchecked(
+    match layout.length {
+        Some(off) => serializer::bca_rt_off_unchecked(
             slots,
             object.first,
             object.count,
@@ -197,33 +158,28 @@ fn length_off(slots: &[u8], object: Object, layout: Layout) -> u64
             layout.unit,
             off,
         ),
-        Field::Absent => layout.tagged_size as u64,
+        None => layout.tagged_size as u64,
     }
 }
 
-fn smi_or_0(payload: &[u8], ts: u8, field: RawAt) -> i64
+fn smi_or_0(payload: &[u8], ts: u8, field: Option<usize>) -> i64
     ensures { result ≡ or_zero (smi_field payload.now ts field) }
 {
-    let RawAt::At(at) = field else {
+    let Some(at) = field else {
         return 0;
     };
-    let Smi::Value(v) = serializer::smi_at(payload, at, ts as usize) else {
-        return 0;
-    };
-    v
+    serializer::smi_at(payload, at, ts as usize).unwrap_or(0)
 }
 
 // Row 9.
 fn length_ok(length: i64) -> bool
     ensures { result ≡ length_ok length }
 {
-    if words::is_negative(length) {
-        return false;
-    }
-    words::unsigned_abs(length) <= 65536
+    0 <= length && length <= 65536
 }
 
 // The header where the length is n.
+#[tactic(auto, unfolding(crate::specs::Header::header_with))]
 fn header_with(slots: &[u8], payload: &[u8], object: Object, layout: Layout, n: u32) -> Header
     ensures { result ≡ header_with payload.now (raw_for slots.now object layout) (rt_for slots.now object layout) layout n }
 {
@@ -247,17 +203,20 @@ fn header_with(slots: &[u8], payload: &[u8], object: Object, layout: Layout, n: 
 }
 
 // Where in the payload the w bytes of a field are.
-fn field_at(slots: &[u8], object: Object, layout: Layout, field: Field, w: u8) -> RawAt
+fn field_at(
+    slots: &[u8],
+    object: Object,
+    layout: Layout,
+    field: Option<u32>,
+    w: u8,
+) -> Option<usize>
     ensures { result ≡ field_by (raw_for slots.now object layout) (rt_for slots.now object layout) field w }
 {
-    let Field::At(off) = field else {
-        return RawAt::Nothing;
-    };
-    raw_from(slots, object, layout, off, w as u32)
+    raw_from(slots, object, layout, field?, w as u32)
 }
 
 // Where in the payload the len bytes from byte off of the capture on are.
-fn raw_from(slots: &[u8], object: Object, layout: Layout, off: u32, len: u32) -> RawAt
+fn raw_from(slots: &[u8], object: Object, layout: Layout, off: u32, len: u32) -> Option<usize>
     ensures { result ≡ raw_for slots.now object layout (rt_for slots.now object layout off) len }
 {
     let first = object.first;
@@ -267,22 +226,17 @@ fn raw_from(slots: &[u8], object: Object, layout: Layout, off: u32, len: u32) ->
     serializer::raw_at_unchecked(slots, first, count, ts, at, len as u64)
 }
 
-fn u32_found(payload: &[u8], field: RawAt) -> u32
+fn u32_found(payload: &[u8], field: Option<usize>) -> u32
     ensures { result ≡ number_at payload.now 4 field }
 {
-    match field {
-        RawAt::At(at) => words::u32_at(payload, at),
-        RawAt::Nothing => 0,
-    }
+    field.map_or(0, |at| words::u32_at(payload, at))
 }
 
-fn byte_found(payload: &[u8], field: RawAt) -> u8
+#[tactic(auto, using(crate::proofs::Laws::byte_one))]
+fn byte_found(payload: &[u8], field: Option<usize>) -> u8
     ensures { result ≡ number_at payload.now 1 field }
 {
-    match field {
-        RawAt::At(at) => words::byte_at(payload, at),
-        RawAt::Nothing => 0,
-    }
+    field.map_or(0, |at| words::byte_at(payload, at))
 }
 
 fn param_count(direct: bool, size: u32) -> i32
@@ -300,17 +254,18 @@ fn code_of(slots: &[u8], object: Object, layout: Layout, n: u32) -> Span
     ensures { result ≡ code_span (raw_for slots.now object layout (rt_for slots.now object layout layout.header_size) n) n }
 {
     match raw_from(slots, object, layout, layout.header_size, n) {
-        RawAt::At(at) => Span {
+        Some(at) => Span {
             at,
             len: n as usize,
         },
-        RawAt::Nothing => Span { at: 0, len: 0 },
+        None => Span { at: 0, len: 0 },
     }
 }
 
 // Numbers in slots.
 
 // smi_slot of an object's slots: it tests neither the low half nor bit 0.
+#[tactic(auto, unfolding(crate::specs::Slots::smi_by))]
 pub fn smi_slot_unchecked(
     slots: &[u8],
     payload: &[u8],
@@ -318,13 +273,14 @@ pub fn smi_slot_unchecked(
     count: u32,
     ts: u8,
     slot: u64,
-) -> Smi
+) -> Option<i64>
     ensures { result ≡ smi_by payload.now (raw_searched slots.now first count ts) ts slot }
 {
     smi_raw(payload, ts, slot_raw(slots, first, count, ts, slot, ts))
 }
 
 // num_field of an object's slots.
+#[tactic(auto, unfolding(crate::specs::Slots::field_num))]
 pub fn num_field_unchecked(
     slots: &[u8],
     payload: &[u8],
@@ -333,7 +289,7 @@ pub fn num_field_unchecked(
     ts: u8,
     slot: u64,
     flags_smi: bool,
-) -> Num
+) -> Option<u32>
     ensures { result ≡ field_num payload.now (raw_searched slots.now first count ts) ts slot flags_smi }
 {
     let plain = plain_num(payload, slot_raw(slots, first, count, ts, slot, 4));
@@ -342,83 +298,59 @@ pub fn num_field_unchecked(
 }
 
 // Where in the payload the first len bytes of a slot are.
-fn slot_raw(slots: &[u8], first: u32, count: u32, ts: u8, slot: u64, len: u8) -> RawAt
+fn slot_raw(slots: &[u8], first: u32, count: u32, ts: u8, slot: u64, len: u8) -> Option<usize>
     ensures { result ≡ slot_by (raw_searched slots.now first count ts) ts slot len }
 {
     if 4294967295 < slot {
-        return RawAt::Nothing;
+        return None;
     }
     serializer::raw_at_unchecked(slots, first, count, ts, slot * ts as u64, len as u64)
 }
 
-fn smi_raw(payload: &[u8], ts: u8, field: RawAt) -> Smi
+fn smi_raw(payload: &[u8], ts: u8, field: Option<usize>) -> Option<i64>
     ensures { result ≡ smi_raw payload.now ts field }
 {
-    match field {
-        RawAt::At(at) => smi_untested(payload, ts, at),
-        RawAt::Nothing => Smi::Nothing,
-    }
+    smi_untested(payload, ts, field?)
 }
 
-fn smi_untested(payload: &[u8], ts: u8, at: usize) -> Smi
+fn smi_untested(payload: &[u8], ts: u8, at: usize) -> Option<i64>
     ensures { result ≡ untested payload.now ts at }
 {
     match ts {
         8 => {
             let high = (words::u64_at(payload, at) / 4294967296) as u32;
-            Smi::Value(words::wide(words::signed32(high)))
+            Some(words::wide(words::signed32(high)))
         }
         4 => {
             let raw = words::u32_at(payload, at);
-            Smi::Value(words::wide(words::half(words::signed32(raw))))
+            Some(words::wide(words::half(words::signed32(raw))))
         }
-        _ => Smi::Nothing,
+        _ => None,
     }
 }
 
-fn plain_num(payload: &[u8], field: RawAt) -> Num
+fn plain_num(payload: &[u8], field: Option<usize>) -> Option<u32>
     ensures { result ≡ plain_num payload.now field }
 {
-    match field {
-        RawAt::At(at) => Num::Is(words::u32_at(payload, at)),
-        RawAt::Nothing => Num::Nothing,
-    }
+    field.map(|at| words::u32_at(payload, at))
 }
 
-fn smi_num(smi: Smi) -> Num
+fn smi_num(smi: Option<i64>) -> Option<u32>
     ensures { result ≡ smi_num smi }
 {
-    match smi {
-        Smi::Value(v) => Num::Is(words::low32(v)),
-        Smi::Nothing => Num::Nothing,
-    }
+    smi.map(words::low32)
 }
 
 // The number that the flag, the plain number and the small integer decide for.
-fn num_by(flags_smi: bool, plain: Num, tagged: Num) -> Num
+fn num_by(flags_smi: bool, plain: Option<u32>, tagged: Option<u32>) -> Option<u32>
     ensures { result ≡ num_by flags_smi plain tagged }
 {
-    match tagged {
-        Num::Nothing => plain,
-        Num::Is(s) => {
-            if flags_smi {
-                return Num::Is(s);
-            }
-            plain_or(plain, s)
-        }
-    }
-}
-
-fn plain_or(plain: Num, s: u32) -> Num
-    ensures { result ≡ num_by false plain (Num.Is s) }
-{
-    match plain {
-        Num::Nothing => Num::Is(s),
-        Num::Is(r) => {
-            if r == 0 {
-                return Num::Is(s);
-            }
-            Num::Is(r)
-        }
+    let (Some(r), Some(s)) = (plain, tagged) else {
+        return plain.or(tagged);
+    };
+    if flags_smi || r == 0 {
+        Some(s)
+    } else {
+        Some(r)
     }
 }

@@ -1,7 +1,7 @@
 // Files and words that a program is given as arguments. No contract can say what is read: these state only how much of a buffer counts.
 #![tactic(auto)]
 
-ghost use Rattle.std.specs.Prelude.{◌≡◌, IfOk};
+ghost use Rattle.std.specs.Prelude.{IfOk, IfSome};
 ghost use Rattle.inputs.specs.Counts.{IsPrefixLen};
 
 use std::env::FillError;
@@ -9,13 +9,6 @@ use std::fmt::Formatter;
 use std::io::{Cursor, ErrorKind, Read, Write};
 use std::rt::{Env, Files};
 use std::{fmt, io};
-
-// Whether a file was read, and how many bytes of it.
-#[derive(Clone, Copy)]
-pub struct Loaded {
-    pub good: bool,
-    pub size: usize,
-}
 
 // The system's numbers for an argument that is not there, and for one that is longer than a file's name may be.
 const NO_ARGUMENT: i32 = 22;
@@ -27,12 +20,9 @@ const NAME_ROOM: usize = 4096;
 
 // How many arguments the program was started with, its own name among them.
 pub fn argument_count(rt: &impl Env) -> usize {
-    for i in 0..usize::MAX {
-        if !has_argument(rt, i) {
-            return i;
-        }
-    }
-    usize::MAX
+    (0..usize::MAX)
+        .find(|i| !has_argument(rt, *i))
+        .unwrap_or(usize::MAX)
 }
 
 // A buffer of no bytes holds an argument that has none, and is too short for any other.
@@ -47,55 +37,34 @@ fn has_argument(rt: &impl Env, i: usize) -> bool {
 pub fn is_argument(rt: &impl Env, i: usize, word: &[u8]) -> bool {
     let mut path = [0u8; NAME_ROOM];
     match rt.arg(i, &mut path) {
-        Ok(n) => is_word(&path[..n], word),
-        Err(_) => is_word(&[], word),
+        Ok(n) => &path[..n] == word,
+        Err(_) => word.is_empty(),
     }
 }
 
-fn is_word(s: &[u8], word: &[u8]) -> bool {
-    if s.len() != word.len() {
-        return false;
-    }
-    let mut i: usize = 0;
-    while i < s.len() {
-        if s[i] != word[i] {
-            return false;
-        }
-        i += 1;
-    }
-    true
-}
-
-// The start of the file that argument i names, as much as the buffer holds.
-pub fn load_argument(rt: &(impl Files + Env + Eprint), i: usize, buffer: &mut [u8]) -> Loaded
-    ensures { IsPrefixLen result.size buffer.new }
+// The start of the file that argument i names, as much as the buffer holds: how many bytes, or none where it was not read.
+pub fn load_argument(rt: &(impl Files + Env + Eprint), i: usize, buffer: &mut [u8]) -> Option<usize>
+    ensures { IfSome result (λ n. IsPrefixLen n buffer.new) }
 {
     let mut path = [0u8; NAME_ROOM];
-    match rt.arg(i, &mut path) {
-        Ok(n) => load_file(rt, &path[..n], buffer),
-        Err(FillError::NotPresent) => {
-            fail(rt, &path, io::Error::from_raw_os_error(NO_ARGUMENT));
-            unread()
-        }
-        Err(FillError::TooLong) => {
-            fail(rt, &path, io::Error::from_raw_os_error(NAME_TOO_LONG));
-            unread()
-        }
-    }
+    let number = match rt.arg(i, &mut path) {
+        Ok(n) => return load_file(rt, &path[..n], buffer),
+        Err(FillError::NotPresent) => NO_ARGUMENT,
+        Err(FillError::TooLong) => NAME_TOO_LONG,
+    };
+    fail(rt, &path, io::Error::from_raw_os_error(number));
+    None
 }
 
 // The same of a file by its name.
-pub fn load_file(rt: &(impl Files + Eprint), path: &[u8], buffer: &mut [u8]) -> Loaded
-    ensures { IsPrefixLen result.size buffer.new }
+pub fn load_file(rt: &(impl Files + Eprint), path: &[u8], buffer: &mut [u8]) -> Option<usize>
+    ensures { IfSome result (λ n. IsPrefixLen n buffer.new) }
 {
     match read_file(rt, path, buffer) {
-        Ok(n) => Loaded {
-            good: true,
-            size: n,
-        },
+        Ok(n) => Some(n),
         Err(error) => {
             fail(rt, path, error);
-            unread()
+            None
         }
     }
 }
@@ -111,7 +80,7 @@ fn read_file(rt: &impl Files, path: &[u8], buffer: &mut [u8]) -> io::Result<usiz
     read_full(&mut file, buffer)
 }
 
-// Reads until the buffer is full or the file ends.
+// Reads until the buffer is full or the file ends: `read_exact` refuses a file that is shorter, and `read_to_end` needs a heap.
 fn read_full(file: &mut impl Read, buffer: &mut [u8]) -> io::Result<usize>
     ensures { IfOk result (λ n. IsPrefixLen n buffer.new) }
 {
@@ -124,15 +93,6 @@ fn read_full(file: &mut impl Read, buffer: &mut [u8]) -> io::Result<usize>
         done += n;
     }
     Ok(done)
-}
-
-pub fn unread() -> Loaded
-    ensures { result.size ≡ 0 }
-{
-    Loaded {
-        good: false,
-        size: 0,
-    }
 }
 
 // Writes a line to standard error: what failed, a colon and the system's words for why.
@@ -163,9 +123,9 @@ impl fmt::Display for Words {
         let _ = write!(text, "{error}");
         let text = text.into_inner();
         let text = text_of(&text).trim_end_matches('\0');
-        match text.split_once(" (os error ") {
-            Some((words, _)) => f.write_str(words),
-            None => f.write_str(text),
-        }
+        f.write_str(
+            text.split_once(" (os error ")
+                .map_or(text, |(words, _)| words),
+        )
     }
 }

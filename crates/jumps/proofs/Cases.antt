@@ -26,7 +26,8 @@ use Rattle.targets.specs.Targets.{pool_elem, operand_of, index_of, number_of, di
 use Rattle.function.specs.Files.{Files}
 use Rattle.function.specs.Pool.{pool_by}
 use Rattle.jumps.specs.Jumps.{target_of, target_call, table_of, table_call, entry_call}
-use Rattle.function.specs.declared.PoolObject.TheVariants as object
+use Rattle.std.specs.Prelude.{Some, None}
+use Rattle.refusal.specs.declared.Fault.TheVariants as fault
 use Rattle.jumps.specs.declared.TargetAnswer.TheVariants as target-answer
 use Rattle.jumps.specs.declared.TableAnswer.TheVariants as table-answer
 use Rattle.jumps.specs.declared.EntryAnswer.TheVariants as entry-answer
@@ -54,15 +55,15 @@ files ops = record {
 
 -- P9; the code's end and a place beyond it; a constant jump without and with a pool; an object that is not there
 pub target-cases :
-    (target_call (files opcodes) object.Nothing (0x07 ∷ 0x03 ∷ 0x00 ∷ []) 0
-    ∷ target_call (files opcodes) object.Nothing (0x02 ∷ []) 1
-    ∷ target_call (files opcodes) object.Nothing (0x02 ∷ []) 2
-    ∷ target_call (files opcodes) object.Nothing (0x08 ∷ 0x00 ∷ []) 0
-    ∷ target_call (files opcodes) (object.Object 0) (0x08 ∷ 0x00 ∷ []) 0
-    ∷ target_call (files opcodes) (object.Object 2) (0x08 ∷ 0x00 ∷ []) 0
+    (target_call (files opcodes) None (0x07 ∷ 0x03 ∷ 0x00 ∷ []) 0
+    ∷ target_call (files opcodes) None (0x02 ∷ []) 1
+    ∷ target_call (files opcodes) None (0x02 ∷ []) 2
+    ∷ target_call (files opcodes) None (0x08 ∷ 0x00 ∷ []) 0
+    ∷ target_call (files opcodes) (Some 0) (0x08 ∷ 0x00 ∷ []) 0
+    ∷ target_call (files opcodes) (Some 2) (0x08 ∷ 0x00 ∷ []) 0
     ∷ [])
-    ≡ (target-answer.At 18446744073709551613 ∷ target-answer.End ∷ target-answer.Refused (refusal_at 20 2) ∷ target-answer.Nothing ∷ target-answer.At 4
-    ∷ target-answer.Refused (refusal_at 8 0) ∷ [])
+    ≡ (target-answer.At 18446744073709551613 ∷ target-answer.End ∷ target-answer.Refused (refusal_at fault.BeyondCode 2) ∷ target-answer.Nothing ∷ target-answer.At 4
+    ∷ target-answer.Refused (refusal_at fault.NoObject 0) ∷ [])
 unfolding target_call target_of opcodes opcode typed types padded four fours layout check_table whole_records within first_from name_ok opcode_fields flow_fits type_code size_fits size_good name_fits is_named type_names
     ranges range_of le_at check_store sizes_ok object_ok slot_ok value_ok fields_ok falls falls_in object_of slot_of layout_of pool_by slot_at pool_elem elem_at down smi_bytes decode_at head_at
     first_marked read_parts parts_from width is_list kinds kind_of of_kind interpret modulo wrap32 signed name_at flow_kind flow_of operand_of index_of
@@ -77,10 +78,10 @@ abbrev wide_switch : List ℕ
 wide_switch = 0x00 ∷ 0x09 ∷ 0x00 ∷ 0x00 ∷ 0x02 ∷ 0x00 ∷ 0x05 ∷ 0x00 ∷ 0x0b ∷ []
 
 pub table-cases :
-    (table_call (files opcodes) (object.Object 0) switch 0
-    ∷ table_call (files opcodes) object.Nothing switch 0
-    ∷ table_call (files opcodes) (object.Object 0) wide_switch 0
-    ∷ table_call (files opcodes) object.Nothing wide_switch 0
+    (table_call (files opcodes) (Some 0) switch 0
+    ∷ table_call (files opcodes) None switch 0
+    ∷ table_call (files opcodes) (Some 0) wide_switch 0
+    ∷ table_call (files opcodes) None wide_switch 0
     ∷ [])
     ≡ (table-answer.At (record { start = 0; count = 2; base = pos 5 }) ∷ table-answer.Nothing ∷ table-answer.At (record { start = 0; count = 2; base = pos 5 }) ∷ table-answer.Nothing
     ∷ [])
@@ -92,14 +93,14 @@ table-cases = refl
 
 -- its entries: one shown, the reference, none; without its pool; what is no switch; the code's end; the one shown and the reference under Wide
 pub entry-cases :
-    (entry_call (files opcodes) (object.Object 0) switch 0 0
-    ∷ entry_call (files opcodes) (object.Object 0) switch 0 1
-    ∷ entry_call (files opcodes) (object.Object 0) switch 0 2
-    ∷ entry_call (files opcodes) object.Nothing switch 0 0
-    ∷ entry_call (files opcodes) (object.Object 0) switch 4 0
-    ∷ entry_call (files opcodes) (object.Object 0) switch 5 0
-    ∷ entry_call (files opcodes) (object.Object 0) wide_switch 0 0
-    ∷ entry_call (files opcodes) (object.Object 0) wide_switch 0 1
+    (entry_call (files opcodes) (Some 0) switch 0 0
+    ∷ entry_call (files opcodes) (Some 0) switch 0 1
+    ∷ entry_call (files opcodes) (Some 0) switch 0 2
+    ∷ entry_call (files opcodes) None switch 0 0
+    ∷ entry_call (files opcodes) (Some 0) switch 4 0
+    ∷ entry_call (files opcodes) (Some 0) switch 5 0
+    ∷ entry_call (files opcodes) (Some 0) wide_switch 0 0
+    ∷ entry_call (files opcodes) (Some 0) wide_switch 0 1
     ∷ [])
     ≡ (entry-answer.Shown (pos 5) 4 ∷ entry-answer.Skipped ∷ entry-answer.Beyond ∷ entry-answer.Nothing ∷ entry-answer.Nothing ∷ entry-answer.End
     ∷ entry-answer.Shown (pos 5) 5 ∷ entry-answer.Skipped ∷ [])
@@ -116,7 +117,7 @@ signed_switch = opcode "SwitchOnSmiNoFeedback" 0 (10 ∷ 9 ∷ 9 ∷ []) (5 ∷ 
 abbrev two_switches : List ℕ
 two_switches = 0x00 ∷ 0x00 ∷ 0x01 ∷ 0x05 ∷ 0x00 ∷ 0x00 ∷ 0xff ∷ 0x05 ∷ []
 
-pub sixteen_case : table_call (files signed_switch) (object.Object 0) two_switches 4 ≡ table-answer.Refused (refusal_at 16 4)
+pub sixteen_case : table_call (files signed_switch) (Some 0) two_switches 4 ≡ table-answer.Refused (refusal_at fault.BadSwitch 4)
 unfolding table_call table_of opcode typed types padded four fours layout check_table whole_records within first_from name_ok opcode_fields flow_fits type_code size_fits size_good name_fits is_named type_names
     ranges range_of le_at check_store sizes_ok object_ok slot_ok value_ok fields_ok falls falls_in object_of slot_of layout_of pool_by slot_at decode_at head_at
     first_marked read_parts parts_from width is_list kinds kind_of of_kind interpret modulo wrap32 signed name_at flow_kind flow_of operand_of index_of
@@ -124,14 +125,14 @@ unfolding table_call table_of opcode typed types padded four fours layout check_
 sixteen_case = refl
 
 -- under Wide too
-pub sixteen_wide : table_call (files (opcode "Wide" 1 [] [] ++ signed_switch)) (object.Object 0) (0x00 ∷ 0x01 ∷ 0x00 ∷ 0x00 ∷ 0x01 ∷ 0x10 ∷ 0x05 ∷ 0x00 ∷ []) 0 ≡ table-answer.Refused (refusal_at 16 0)
+pub sixteen_wide : table_call (files (opcode "Wide" 1 [] [] ++ signed_switch)) (Some 0) (0x00 ∷ 0x01 ∷ 0x00 ∷ 0x00 ∷ 0x01 ∷ 0x10 ∷ 0x05 ∷ 0x00 ∷ []) 0 ≡ table-answer.Refused (refusal_at fault.BadSwitch 0)
 unfolding table_call table_of opcode typed types padded four fours layout check_table whole_records within first_from name_ok opcode_fields flow_fits type_code size_fits size_good name_fits is_named type_names
     ranges range_of le_at check_store sizes_ok object_ok slot_ok value_ok fields_ok falls falls_in object_of slot_of layout_of pool_by slot_at decode_at head_at
     first_marked read_parts parts_from width is_list kinds kind_of of_kind interpret modulo wrap32 signed name_at flow_kind flow_of operand_of index_of
     number_of jump_table table_by sized_by
 sixteen_wide = refl
 
-pub sixteen_target : target_call (files signed_switch) (object.Object 0) two_switches 4 ≡ target-answer.Nothing
+pub sixteen_target : target_call (files signed_switch) (Some 0) two_switches 4 ≡ target-answer.Nothing
 unfolding target_call target_of opcode typed types padded four fours layout check_table whole_records within first_from name_ok opcode_fields flow_fits type_code size_fits size_good name_fits is_named type_names
     ranges range_of le_at check_store sizes_ok object_ok slot_ok value_ok fields_ok falls falls_in object_of slot_of layout_of pool_by slot_at decode_at head_at
     first_marked read_parts parts_from width is_list kinds kind_of of_kind interpret modulo wrap32 signed name_at flow_kind flow_of jump_target

@@ -1,10 +1,11 @@
 -- The answers' numbers say all of them: each answer is read back from its numbers. Assumes nothing.
 use Prim.Native.Nat.{ℕ, zero, suc}
-use mathlib.Core.Path.{◌≡◌, refl}
+use mathlib.Core.Path.{◌≡◌, refl, ap}
 use mathlib.Core.List.{List}
 use lib.IntN.{ℤ}
+use Rattle.refusal.specs.declared.Refusal.{Refusal}
 use Rattle.refusal.specs.Numbers.{Numbers}
-use Rattle.refusal.proofs.Numbers.{one_by, refused_or, found_or, end_or, value, count}
+use Rattle.refusal.proofs.Numbers.{one_by, refusal_back, refused_or, found_or, end_or, value, count}
 use Rattle.jumps.specs.Numbers.{target_numbers, table_numbers, entry_numbers}
 use Rattle.jumps.specs.declared.TargetAnswer.{TargetAnswer}
 use Rattle.jumps.specs.declared.TargetAnswer.TheVariants as target-answer
@@ -21,7 +22,7 @@ target_back_lem : (at : ℕ) (a : TargetAnswer) → target_read (target_numbers 
 target_back_lem at (target-answer.At t) = refl
 target_back_lem at target-answer.Nothing = refl
 target_back_lem at target-answer.End = refl
-target_back_lem at (target-answer.Refused r) = refl
+target_back_lem at (target-answer.Refused r) = ap (λ (x : Refusal). target-answer.Refused x) (refusal_back r)
 
 pub target_numbers_one : (at : ℕ) (a b : TargetAnswer) → target_numbers at a ≡ target_numbers at b → a ≡ b
 target_numbers_one at = one_by (target_numbers at) target_read (target_back_lem at)
@@ -36,7 +37,7 @@ table_back : (at : ℕ) (a : TableAnswer) → table_read (table_numbers at a) �
 table_back at (table-answer.At e) = refl
 table_back at table-answer.Nothing = refl
 table_back at table-answer.End = refl
-table_back at (table-answer.Refused r) = refl
+table_back at (table-answer.Refused r) = ap (λ (x : Refusal). table-answer.Refused x) (refusal_back r)
 
 pub table_numbers_one : (at : ℕ) (a b : TableAnswer) → table_numbers at a ≡ table_numbers at b → a ≡ b
 table_numbers_one at = one_by (table_numbers at) table_read (table_back at)
@@ -56,7 +57,7 @@ entry_back at entry-answer.Skipped = refl
 entry_back at entry-answer.Beyond = refl
 entry_back at entry-answer.Nothing = refl
 entry_back at entry-answer.End = refl
-entry_back at (entry-answer.Refused r) = refl
+entry_back at (entry-answer.Refused r) = ap (λ (x : Refusal). entry-answer.Refused x) (refusal_back r)
 
 pub entry_numbers_one : (at : ℕ) (a b : EntryAnswer) → entry_numbers at a ≡ entry_numbers at b → a ≡ b
 entry_numbers_one at = one_by (entry_numbers at) entry_read (entry_back at)

@@ -10,9 +10,8 @@ ghost use Rattle.jumps.specs.Numbers.{target_numbers, table_numbers, entry_numbe
 ghost use Rattle.jumps.specs.Jumps.{target_told, target_of, target_call, table_told, table_of, table_call, entry_told, entry_in, entry_of, entry_call};
 
 use decoder::{Decoded, Outcome};
-use function::PoolObject;
-use refusal::{Check, Refusal};
-use targets::{Entries, Entry, Pool, Table, Target};
+use refusal::{Fault, Refusal};
+use targets::{BadSwitch, Case, Entries, PoolSlots};
 
 // Where a jump goes. End is the code's end; Nothing is no target.
 #[derive(Clone, Copy)]
@@ -54,7 +53,7 @@ pub fn jump_target(
     objects: &[u8],
     slots: &[u8],
     payload: &[u8],
-    object: PoolObject,
+    object: Option<usize>,
 ) -> TargetAnswer
     ensures { target_numbers at result ≡ target_numbers at (target_call
         (lent_files opcodes.now types.now layout.now objects.now slots.now payload.now)
@@ -63,8 +62,8 @@ pub fn jump_target(
     match function::check_lent(
         code, opcodes, types, layout, objects, slots, payload, object,
     ) {
-        Check::Refused(refusal) => TargetAnswer::Refused(refusal),
-        Check::Ok => {
+        Err(refusal) => TargetAnswer::Refused(refusal),
+        Ok(()) => {
             let shape = tables::layout_of(layout);
             let pool = function::lent_pool(objects, slots, shape, object);
             let d = bytecode::decode_unchecked(opcodes, types, layout, code, at);
@@ -83,7 +82,7 @@ pub fn jump_table(
     objects: &[u8],
     slots: &[u8],
     payload: &[u8],
-    object: PoolObject,
+    object: Option<usize>,
 ) -> TableAnswer
     ensures { table_numbers at result ≡ table_numbers at (table_call
         (lent_files opcodes.now types.now layout.now objects.now slots.now payload.now)
@@ -92,8 +91,8 @@ pub fn jump_table(
     match function::check_lent(
         code, opcodes, types, layout, objects, slots, payload, object,
     ) {
-        Check::Refused(refusal) => TableAnswer::Refused(refusal),
-        Check::Ok => {
+        Err(refusal) => TableAnswer::Refused(refusal),
+        Ok(()) => {
             let shape = tables::layout_of(layout);
             let pool = function::lent_pool(objects, slots, shape, object);
             let d = bytecode::decode_unchecked(opcodes, types, layout, code, at);
@@ -112,7 +111,7 @@ pub fn jump_entry(
     objects: &[u8],
     slots: &[u8],
     payload: &[u8],
-    object: PoolObject,
+    object: Option<usize>,
     k: usize,
 ) -> EntryAnswer
     ensures { entry_numbers at result ≡ entry_numbers at (entry_call
@@ -122,8 +121,8 @@ pub fn jump_entry(
     match function::check_lent(
         code, opcodes, types, layout, objects, slots, payload, object,
     ) {
-        Check::Refused(refusal) => EntryAnswer::Refused(refusal),
-        Check::Ok => {
+        Err(refusal) => EntryAnswer::Refused(refusal),
+        Ok(()) => {
             let shape = tables::layout_of(layout);
             let pool = function::lent_pool(objects, slots, shape, object);
             let d = bytecode::decode_unchecked(opcodes, types, layout, code, at);
@@ -142,7 +141,7 @@ fn target_of(
     slots: &[u8],
     payload: &[u8],
     ts: u8,
-    pool: Pool,
+    pool: Option<PoolSlots>,
     d: Decoded,
 ) -> TargetAnswer
     ensures { result ≡ target_of (opcodes_of opcodes.now) (pool_searched slots.now payload.now ts pool) d }
@@ -161,7 +160,7 @@ fn target_of(
 
 // The table of what was decoded at a place.
 #[tactic(auto, unfolding(crate::specs::Jumps::table_of))]
-fn table_of(opcodes: &[u8], pool: Pool, d: Decoded, at: usize) -> TableAnswer
+fn table_of(opcodes: &[u8], pool: Option<PoolSlots>, d: Decoded, at: usize) -> TableAnswer
     ensures { result ≡ table_of (opcodes_of opcodes.now) (found pool) d at }
 {
     let outcome = d.outcome;
@@ -181,7 +180,7 @@ fn entry_of(
     slots: &[u8],
     payload: &[u8],
     ts: u8,
-    pool: Pool,
+    pool: Option<PoolSlots>,
     from: u64,
     table: TableAnswer,
     k: usize,
@@ -200,7 +199,7 @@ fn entry_in(
     slots: &[u8],
     payload: &[u8],
     ts: u8,
-    pool: Pool,
+    pool: Option<PoolSlots>,
     from: u64,
     e: Entries,
     k: usize,
@@ -214,33 +213,36 @@ fn entry_in(
     }
 }
 
-fn entry_told(entry: Entry) -> EntryAnswer
+fn entry_told(entry: Option<Case>) -> EntryAnswer
     ensures { result ≡ entry_told entry }
 {
     match entry {
-        Entry::Shown { case, target } => EntryAnswer::Shown { case, target },
-        Entry::Skipped => EntryAnswer::Skipped,
+        Some(c) => EntryAnswer::Shown {
+            case: c.case,
+            target: c.target,
+        },
+        None => EntryAnswer::Skipped,
     }
 }
 
-fn target_told(target: Target) -> TargetAnswer
+fn target_told(target: Option<u64>) -> TargetAnswer
     ensures { result ≡ target_told target }
 {
     match target {
-        Target::At(t) => TargetAnswer::At(t),
-        Target::Nothing => TargetAnswer::Nothing,
+        Some(t) => TargetAnswer::At(t),
+        None => TargetAnswer::Nothing,
     }
 }
 
 // Number 16 at the instruction's start.
-fn table_told(table: Table, at: usize) -> TableAnswer
+fn table_told(table: Result<Option<Entries>, BadSwitch>, at: usize) -> TableAnswer
     ensures { result ≡ table_told table at }
 {
     match table {
-        Table::Nothing => TableAnswer::Nothing,
-        Table::At(e) => TableAnswer::At(e),
-        Table::Refused => TableAnswer::Refused(Refusal {
-            number: refusal::BAD_SWITCH,
+        Ok(None) => TableAnswer::Nothing,
+        Ok(Some(e)) => TableAnswer::At(e),
+        Err(BadSwitch) => TableAnswer::Refused(Refusal {
+            fault: Fault::BadSwitch,
             place: at,
         }),
     }

@@ -3,12 +3,10 @@ use Rattle.std.specs.Prelude.{ℕ, ◌*◌, ◌/◌, ◌%◌, List, [], ◌∷�
 use Rattle.std.specs.Int.{w32}
 use mir.Val.{to_z}
 use Rattle.words.specs.Le.{le_at}
-use Rattle.refusal.specs.declared.Check.{Check}
+use Rattle.std.specs.Prelude.{Option, Some, None}
+use Rattle.refusal.specs.Check.{Check}
+use Rattle.refusal.specs.declared.Fault.TheVariants as fault
 use Rattle.refusal.specs.Check.{first_bad}
-use Rattle.layout.specs.declared.Field.{Field}
-use Rattle.layout.specs.declared.Field.TheVariants as field
-use Rattle.layout.specs.declared.ParamBase.{ParamBase}
-use Rattle.layout.specs.declared.ParamBase.TheVariants as base
 use Rattle.layout.specs.declared.Frame.{Frame}
 use Rattle.layout.specs.declared.Layout.{Layout}
 
@@ -49,8 +47,8 @@ abbrev pub bad_value : List ℕ → ℕ → Bool
 bad_value l k = not (in_range (range_of k) (value l k))
 
 -- 01: "may be ffffffff, absent"
-abbrev pub field_of : ℕ → Field
-field_of v = cond (eqb v 4294967295) field.Absent (field.At v)
+abbrev pub field_of : ℕ → Option ℕ
+field_of v = cond (eqb v 4294967295) None (Some v)
 
 -- The Rust's `slot_unit`: "0 means 8". A tagged size and a unit are bytes.
 abbrev pub slot_unit : List ℕ → ℕ
@@ -61,11 +59,11 @@ abbrev pub slot_for : ℕ → ℕ → ℕ → ℕ
 slot_for v u fallback = cond (eqb v 4294967295) fallback (v / u)
 
 -- "10 is used where 9 is absent"
-abbrev pub osr_field : ℕ → ℕ → Field
-osr_field nine ten = cond (eqb nine 4294967295) (field_of ten) (field.At nine)
+abbrev pub osr_field : ℕ → ℕ → Option ℕ
+osr_field nine ten = cond (eqb nine 4294967295) (field_of ten) (Some nine)
 
-abbrev pub param_base_of : ℕ → ℤ → ParamBase
-param_base_of present b = cond (eqb present 0) base.Absent (base.At b)
+abbrev pub param_base_of : ℕ → ℤ → Option ℤ
+param_base_of present b = cond (eqb present 0) None (Some b)
 
 abbrev pub frame_of : List ℕ → Frame
 frame_of l = record {
@@ -95,4 +93,4 @@ layout_of l = record {
 
 -- 5: "layout value outside its range"; its place is the value's number
 abbrev pub check_layout : List ℕ → Check
-check_layout layout = first_bad 5 (bad_value layout) 20
+check_layout layout = first_bad fault.BadLayout (bad_value layout) 20

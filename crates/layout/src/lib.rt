@@ -4,23 +4,13 @@
 ghost use Rattle.std.specs.Prelude.{◌≡◌, ◌+◌, ◌-◌, ◌*◌, ◌/◌, ◌<◌, ◌||◌, eqb, leb, length};
 ghost use Rattle.layout.specs.Layout.{check_layout, value, signed_value, range_of, in_range, field_of, slot_for, osr_field, param_base_of, slot_unit, frame_of, layout_of};
 
-use refusal::Check;
+use refusal::{Fault, Refusal};
 
 // How long a layout is.
 pub const LAYOUT_SIZE: usize = 80;
 
-// A header field's offset.
-#[derive(Clone, Copy)]
-pub enum Field {
-    At(u32),
-    Absent,
-}
-
-#[derive(Clone, Copy)]
-pub enum ParamBase {
-    At(i32),
-    Absent,
-}
+// An offset that the layout does not have.
+const ABSENT: u32 = 4294967295;
 
 // The registers' numbers.
 #[derive(Clone, Copy)]
@@ -29,7 +19,7 @@ pub struct Frame {
     pub context: i32,
     pub closure: i32,
     pub first_param: i32,
-    pub param_base: ParamBase,
+    pub param_base: Option<i32>,
 }
 
 #[derive(Clone, Copy)]
@@ -40,16 +30,17 @@ pub struct Layout {
     pub pool_slot: u32,
     pub handler_slot: u32,
     pub source_slot: u32,
-    pub length: Field,
-    pub frame_size: Field,
-    pub parameter_size: Field,
-    pub osr: Field,
-    pub age: Field,
+    pub length: Option<u32>,
+    pub frame_size: Option<u32>,
+    pub parameter_size: Option<u32>,
+    pub osr: Option<u32>,
+    pub age: Option<u32>,
     pub direct: bool,
     pub frame: Frame,
 }
 
 // The layout's values, with the Rust's fallbacks for absent ones.
+#[tactic(auto, unfolding(crate::specs::Layout::layout_of))]
 pub fn layout_of(layout: &[u8]) -> Layout
     ensures { result ≡ layout_of layout.now }
 {
@@ -82,20 +73,19 @@ pub fn slot_unit(layout: &[u8]) -> u8
 
 // Layout values: row 5.
 
-pub fn check_layout(layout: &[u8]) -> Check
+pub fn check_layout(layout: &[u8]) -> Result<(), Refusal>
     ensures { result ≡ check_layout layout.now }
 {
-    let mut k: u8 = 0;
-    while k < 20 {
+    for k in 0..20 {
         if !in_range(k, value(layout, k)) {
-            return refusal::at_record(refusal::BAD_LAYOUT, k as usize, 20);
+            return refusal::at_record(Fault::BadLayout, k as usize, 20);
         }
-        k += 1;
     }
-    refusal::at_record(refusal::BAD_LAYOUT, k as usize, 20)
+    Ok(())
 }
 
 // Whether layout value k may be v.
+#[tactic(auto, using(crate::proofs::Laws::range_run), unfolding(crate::specs::Layout::range_of, crate::specs::Layout::ranges))]
 fn in_range(k: u8, v: u32) -> bool
     ensures { result ≡ in_range (range_of k) v }
 {
@@ -115,20 +105,20 @@ fn in_range(k: u8, v: u32) -> bool
 fn is_tagged(v: u32) -> bool
     ensures { result ≡ (eqb v 4 || eqb v 8) }
 {
-    if v == 4 { true } else { v == 8 }
+    v == 4 || v == 8
 }
 
 fn is_unit(v: u32) -> bool
     ensures { result ≡ (eqb v 0 || (eqb v 4 || eqb v 8)) }
 {
-    if v == 0 { true } else { is_tagged(v) }
+    v == 0 || is_tagged(v)
 }
 
 // An offset, or ffffffff for an absent one.
 fn is_offset(v: u32) -> bool
     ensures { result ≡ (leb v 65535 || eqb v 4294967295) }
 {
-    if v <= 65535 { true } else { v == 4294967295 }
+    v <= 65535 || v == ABSENT
 }
 
 // Layout value k.
@@ -144,45 +134,34 @@ fn signed_value(layout: &[u8], k: u8) -> i32
     words::signed32(value(layout, k))
 }
 
-fn field_of(v: u32) -> Field
+fn field_of(v: u32) -> Option<u32>
     ensures { result ≡ field_of v }
 {
-    if v == 4294967295 {
-        Field::Absent
-    } else {
-        Field::At(v)
-    }
+    if v == ABSENT { None } else { Some(v) }
 }
 
 // The slot of an offset, or the Rust's own where it is absent.
 fn slot_for(v: u32, unit: u8, fallback: u32) -> u32
+    requires { 0 < unit }
     ensures { result ≡ slot_for v unit fallback }
 {
-    if v == 4294967295 {
-        return fallback;
+    match field_of(v) {
+        Some(offset) => offset / unit as u32,
+        None => fallback,
     }
-    if unit == 0 { 0 } else { v / unit as u32 }
 }
 
 // osr_loop_nesting_level, or osr_urgency_and_install_target where that is absent.
-fn osr_field(nine: u32, ten: u32) -> Field
+fn osr_field(nine: u32, ten: u32) -> Option<u32>
     ensures { result ≡ osr_field nine ten }
 {
-    if nine == 4294967295 {
-        field_of(ten)
-    } else {
-        Field::At(nine)
-    }
+    field_of(nine).or(field_of(ten))
 }
 
-fn param_base(present: u32, base: i32) -> ParamBase
+fn param_base(present: u32, base: i32) -> Option<i32>
     ensures { result ≡ param_base_of present base }
 {
-    if present == 0 {
-        ParamBase::Absent
-    } else {
-        ParamBase::At(base)
-    }
+    if present == 0 { None } else { Some(base) }
 }
 
 fn frame_of(layout: &[u8]) -> Frame

@@ -9,6 +9,7 @@ use Rattle.laws.specs.Ascii.{ascii}
 use Rattle.layout.specs.declared.Frame.{Frame}
 use Rattle.decoder.specs.declared.Instr.{Instr}
 use Rattle.bytecode.specs.Texts.{NameFiles, operand_text}
+use Rattle.std.specs.Prelude.{Option}
 use Rattle.serializer.specs.declared.Elem.{Elem}
 use Rattle.flow.specs.declared.Flow.{Flow}
 use Rattle.flow.specs.declared.Kind.TheVariants.{On, Ends}
@@ -31,7 +32,7 @@ module _ (names : NameFiles) (frame : Frame) (params : ℤ) (i : Instr) (n k : �
   operands_end l = let e : n - k ≡ 0 = omega arith in rw e
 
 -- nothing is told of where an instruction goes that goes on or ends a path
-module _ (el : ℕ → Elem) (pooled : Bool) (flow : Flow) (i : Instr) where
+module _ (el : ℕ → Option Elem) (pooled : Bool) (flow : Flow) (i : Instr) where
   pub goes_on : flow.kind ≡ On → goes_by el pooled flow i ≡ ascii "\n"
   unfolding jump_target jump_table
   goes_on e = rw e
@@ -40,7 +41,7 @@ module _ (el : ℕ → Elem) (pooled : Bool) (flow : Flow) (i : Instr) where
   unfolding jump_target jump_table
   goes_ends e = rw e
 
-module _ (el : ℕ → Elem) (at : ℕ) (e : Entries) (shown : Bool) (n k : ℕ) where
+module _ (el : ℕ → Option Elem) (at : ℕ) (e : Entries) (shown : Bool) (n k : ℕ) where
   pub entries_next : k < n → entries_from el at e shown k (n - k) ≡ entry_text shown (entry_at el at e k) ++ entries_from el at e (shown_after shown (entry_at el at e k)) (k + 1) (n - (k + 1))
   unfolding entries_from
   entries_next l = let z : n - k ≡ suc (n - (k + 1)) = omega arith in rw z

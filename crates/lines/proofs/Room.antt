@@ -21,20 +21,16 @@ use Rattle.flow.specs.Opcodes.{Opcodes, opcodes_of}
 use Rattle.flow.specs.declared.Kind.{Kind}
 use Rattle.flow.specs.declared.Flow.{Flow}
 use Rattle.bytecode.specs.Texts.{NameFiles, param_name, reg_name, list_name, operand_text, instr_name}
+use Rattle.std.specs.Prelude.{Option, Some, None, Result, Ok, Err}
+use Rattle.targets.specs.declared.Case.{Case}
 use Rattle.serializer.specs.declared.Elem.{Elem}
 use Rattle.targets.specs.Targets.{operand_of, here, distance_by, target_from, target_back, target_by, jump_target, jump_table, entry_at}
-use Rattle.targets.specs.declared.Number.{Number}
-use Rattle.targets.specs.declared.Target.{Target}
 use Rattle.targets.specs.declared.Entries.{Entries}
-use Rattle.targets.specs.declared.Table.{Table}
-use Rattle.targets.specs.declared.Entry.{Entry}
 use Rattle.lines.specs.Line.{View, before, operands_by, target_text, entry_text, shown_after, entries_from, table_text, bytes_of, place_text, line_by}
 use Rattle.lines.specs.mirror.Room.{entries_of, target_room, line_room}
 use Rattle.operand.specs.declared.Operand.TheVariants as op
 use Rattle.flow.specs.declared.Kind.TheVariants as kind
-use Rattle.targets.specs.declared.Target.TheVariants as target
-use Rattle.targets.specs.declared.Table.TheVariants as table
-use Rattle.targets.specs.declared.Entry.TheVariants as entry
+use Rattle.targets.specs.declared.BadSwitch.{BadSwitch}
 
 -- ---- numbers, bytes and names
 
@@ -118,11 +114,11 @@ module _ (frame : Frame) (params : ℤ) where
 
 -- ---- the target and the entries
 
-some_target : (t : Target) → length (target_text t) ≤ 30
-some_target (target.At t) = simp length-append (omega (arith, digits_few t))
-some_target target.Nothing = omega arith
+some_target : (t : Option ℕ) → length (target_text t) ≤ 30
+some_target (Some t) = simp length-append (omega (arith, digits_few t))
+some_target None = omega arith
 
-target_room_lem : (k : Kind) (at : ℕ) (d : Number) → length (target_text (target_by k at d)) ≤ target_room k
+target_room_lem : (k : Kind) (at : ℕ) (d : Option ℤ) → length (target_text (target_by k at d)) ≤ target_room k
 target_room_lem kind.On at d = omega arith
 target_room_lem kind.Ends at d = omega arith
 target_room_lem kind.Jumps at d = some_target (target_from at d)
@@ -130,23 +126,23 @@ target_room_lem kind.Branches at d = some_target (target_from at d)
 target_room_lem kind.JumpsBack at d = some_target (target_back at d)
 target_room_lem kind.Switch at d = omega arith
 
-entry_room : (shown : Bool) (e : Entry) → length (entry_text shown e) ≤ 46
-entry_room shown (entry.Shown case t) =
+entry_room : (shown : Bool) (e : Option Case) → length (entry_text shown e) ≤ 46
+entry_room shown (Some c) =
     let h : length (cond shown (ascii ",") []) ≤ 1 = either shown _ _ (omega arith) (omega arith) in
-    simp length-append (omega (arith, signed_room case, digits_few t))
-entry_room shown entry.Skipped = omega arith
+    simp length-append (omega (arith, signed_room c.case, digits_few c.target))
+entry_room shown None = omega arith
 
-module _ (el : ℕ → Elem) (at : ℕ) where
+module _ (el : ℕ → Option Elem) (at : ℕ) where
   entries_room : (e : Entries) (shown : Bool) (k n : ℕ) → length (entries_from el at e shown k n) ≤ 46 * n
   unfolding entries_from
   entries_room e shown k zero = omega arith
   entries_room e shown k (suc n) =
       simp length-append (omega (arith, entry_room shown (entry_at el at e k), entries_room e (shown_after shown (entry_at el at e k)) (k + 1) n))
 
-  table_room : (t : Table) → length (table_text el at t) ≤ 46 * entries_of t + 4
-  table_room table.Nothing = omega arith
-  table_room (table.At e) = simp length-append (omega (arith, entries_room e false 0 e.count))
-  table_room table.Refused = omega arith
+  table_room : (t : Result (Option Entries) BadSwitch) → length (table_text el at t) ≤ 46 * entries_of t + 4
+  table_room (Ok None) = omega arith
+  table_room (Ok (Some e)) = simp length-append (omega (arith, entries_room e false 0 e.count))
+  table_room (Err e) = omega arith
 
 -- ---- the line
 
@@ -169,6 +165,6 @@ line_room_lem v short flow i =
     ))
 
 -- room for more operands is room
-pub room_more : (flow : Flow) {m n : ℕ} (size : ℕ) (t : Table) → m ≤ n → line_room flow m size t ≤ line_room flow n size t
+pub room_more : (flow : Flow) {m n : ℕ} (size : ℕ) (t : Result (Option Entries) BadSwitch) → m ≤ n → line_room flow m size t ≤ line_room flow n size t
 unfolding line_room
 room_more flow size t h = omega arith

@@ -8,15 +8,12 @@ use Rattle.decoder.specs.declared.Instr.{Instr}
 use Rattle.flow.specs.declared.Flow.{Flow}
 use Rattle.flow.specs.Opcodes.{Opcodes}
 use Rattle.bytecode.specs.Texts.{NameFiles, operand_text, instr_name}
+use Rattle.std.specs.Prelude.{Option, Some, None, Result, Ok, Err}
+use Rattle.targets.specs.declared.Case.{Case}
 use Rattle.serializer.specs.declared.Elem.{Elem}
 use Rattle.targets.specs.Targets.{operand_of, here, jump_target, jump_table, entry_at}
-use Rattle.targets.specs.declared.Target.{Target}
-use Rattle.targets.specs.declared.Target.TheVariants as target
 use Rattle.targets.specs.declared.Entries.{Entries}
-use Rattle.targets.specs.declared.Table.{Table}
-use Rattle.targets.specs.declared.Table.TheVariants as table
-use Rattle.targets.specs.declared.Entry.{Entry}
-use Rattle.targets.specs.declared.Entry.TheVariants as entry
+use Rattle.targets.specs.declared.BadSwitch.{BadSwitch}
 
 -- what the lines of a function are made from: its code, the opcodes, the files of names, the registers, the parameter count, and the pool
 pub record View : Type 0 where
@@ -26,7 +23,7 @@ pub record View : Type 0 where
   pub frame : Frame
   pub params : ℤ
   pub pooled : Bool
-  pub elem : ℕ → Elem
+  pub elem : ℕ → Option Elem
 
 -- a blank in front of the first operand, a comma and a blank in front of each other
 abbrev pub before : ℕ → List ℕ
@@ -42,29 +39,29 @@ abbrev pub operands_text : View → Instr → List ℕ
 operands_text v i = operands_by v.names v.frame v.params i 0 (min i.count 8)
 
 -- " (jscd @ {t})"
-abbrev pub target_text : Target → List ℕ
-target_text (target.At t) = ascii " (jscd @ " ++ decimal t ++ ascii ")"
-target_text target.Nothing = []
+abbrev pub target_text : Option ℕ → List ℕ
+target_text (Some t) = ascii " (jscd @ " ++ decimal t ++ ascii ")"
+target_text None = []
 
 -- "{case}: @{target}", a comma in front of all but the first that is shown
-abbrev pub entry_text : Bool → Entry → List ℕ
-entry_text shown (entry.Shown case t) = cond shown (ascii ",") [] ++ ascii " " ++ signed_decimal case ++ ascii ": @" ++ decimal t
-entry_text shown entry.Skipped = []
+abbrev pub entry_text : Bool → Option Case → List ℕ
+entry_text shown (Some c) = cond shown (ascii ",") [] ++ ascii " " ++ signed_decimal c.case ++ ascii ": @" ++ decimal c.target
+entry_text shown None = []
 
-abbrev pub shown_after : Bool → Entry → Bool
-shown_after shown (entry.Shown case t) = true
-shown_after shown entry.Skipped = shown
+abbrev pub shown_after : Bool → Option Case → Bool
+shown_after shown (Some c) = true
+shown_after shown None = shown
 
 -- entries k to k + n - 1
-unfoldable pub entries_from : (ℕ → Elem) → ℕ → Entries → Bool → ℕ → ℕ → List ℕ
+unfoldable pub entries_from : (ℕ → Option Elem) → ℕ → Entries → Bool → ℕ → ℕ → List ℕ
 entries_from el at e shown k zero = []
 entries_from el at e shown k (suc n) = entry_text shown (entry_at el at e k) ++ entries_from el at e (shown_after shown (entry_at el at e k)) (k + 1) n
 
 -- 01: "No entries shows `{ }`; no table shows nothing."
-abbrev pub table_text : (ℕ → Elem) → ℕ → Table → List ℕ
-table_text el at table.Nothing = []
-table_text el at (table.At e) = ascii " {" ++ entries_from el at e false 0 e.count ++ ascii " }"
-table_text el at table.Refused = []
+abbrev pub table_text : (ℕ → Option Elem) → ℕ → Result (Option Entries) BadSwitch → List ℕ
+table_text el at (Ok None) = []
+table_text el at (Ok (Some e)) = ascii " {" ++ entries_from el at e false 0 e.count ++ ascii " }"
+table_text el at (Err e) = []
 
 abbrev pub bytes_of : List ℕ → Instr → List ℕ
 bytes_of code i = take (i.end - i.offset) (drop i.offset code)

@@ -15,7 +15,7 @@ ghost use Rattle.lines.specs.mirror.Parts.{place_by, instr_by, goes_by};
 use decoder::Instr;
 use flow::{Flow, Kind};
 use function::Function;
-use targets::{Entries, Entry, Table, Target};
+use targets::{BadSwitch, Case, Entries};
 
 // The first part of a line, from the start of the buffer that is lent: offset, bytes, name and operands. `bytes` are those of the instruction.
 // Its operands are taken out of it before anything is put, so that they are copied once.
@@ -34,16 +34,13 @@ pub fn put_instr(
 {
     let frame = f.frame;
     let operands = instr.operands;
-    let n = text::min(instr.count, 8);
+    let n = instr.count.min(8);
     let p = put_place(out, bytes, instr.offset);
     let mut p = bytecode::instr_name(out, p, opcodes, instr.opcode, instr.scale);
-    let mut k: usize = 0;
-    while k < n {
-        let place = operands[k];
-        let op = place.operand;
+    for k in 0..n {
+        let op = operands[k].operand;
         p = put_before(out, p, k);
         p = bytecode::render_operand(out, p, types, runtime, intrinsic, frame, f.params, op);
-        k += 1;
     }
     p
 }
@@ -96,11 +93,16 @@ fn put_targets(
 }
 
 // A length that no line of an instruction of this flow, operand count, size and table is longer than.
-pub fn line_room(flow: Flow, count: u8, size: u8, table: Table) -> usize
+pub fn line_room(
+    flow: Flow,
+    count: u8,
+    size: u8,
+    table: Result<Option<Entries>, BadSwitch>,
+) -> usize
     ensures { result ≡ line_room flow (min count 8) size table }
 {
     let kind = flow.kind;
-    let n = text::min(count as usize, 8);
+    let n = (count as usize).min(8);
     let p = 110 + target_room(kind) as usize + 72 * n + 46 * entries_of(table) as usize;
     p + 3 * size as usize
 }
@@ -120,13 +122,13 @@ fn target_room(kind: Kind) -> u8
 }
 
 // How many entries a table has.
-fn entries_of(table: Table) -> u16
+fn entries_of(table: Result<Option<Entries>, BadSwitch>) -> u16
     ensures { result ≡ entries_of table }
 {
     match table {
-        Table::Nothing => 0,
-        Table::Refused => 0,
-        Table::At(e) => e.count,
+        Ok(None) => 0,
+        Err(BadSwitch) => 0,
+        Ok(Some(e)) => e.count,
     }
 }
 
@@ -152,16 +154,16 @@ fn put_before(out: &mut [u8], at: usize, k: usize) -> usize
     }
 }
 
-fn put_target(out: &mut [u8], at: usize, target: Target) -> usize
+fn put_target(out: &mut [u8], at: usize, target: Option<u64>) -> usize
     ensures { Put out.old at (target_text target) out.new result }
 {
     match target {
-        Target::At(t) => {
+        Some(t) => {
             let p = text::put_bytes(out, at, b" (jscd @ ");
             let p = text::put_decimal(out, p, t);
             text::put_byte(out, p, b')')
         }
-        Target::Nothing => text::saturating_add(at, 0),
+        None => text::saturating_add(at, 0),
     }
 }
 
@@ -173,15 +175,15 @@ fn put_table(
     blocks: &[u32],
     f: Function,
     here: u64,
-    table: Table,
+    table: Result<Option<Entries>, BadSwitch>,
 ) -> usize
     ensures { PoolBlocked slots.now f.ts f.pool blocks.now
         → Put out.old at (table_text (elems_of slots.now payload.now f) here table) out.new result }
 {
     match table {
-        Table::Nothing => text::saturating_add(at, 0),
-        Table::Refused => text::saturating_add(at, 0),
-        Table::At(e) => {
+        Ok(None) => text::saturating_add(at, 0),
+        Err(BadSwitch) => text::saturating_add(at, 0),
+        Ok(Some(e)) => {
             let p = text::put_bytes(out, at, b" {");
             let p = put_entries(out, p, slots, payload, blocks, f, here, e);
             text::put_bytes(out, p, b" }")
@@ -207,27 +209,25 @@ fn put_entries(
     let n = e.count;
     let mut p = text::saturating_add(at, 0);
     let mut shown = false;
-    let mut k: u16 = 0;
-    while k < n {
+    for k in 0..n {
         let entry = targets::jump_entry_in(slots, payload, blocks, f.ts, pool, here, e, k);
         p = put_entry(out, p, shown, entry);
         shown = shown_after(shown, entry);
-        k += 1;
     }
     p
 }
 
-fn put_entry(out: &mut [u8], at: usize, shown: bool, entry: Entry) -> usize
+fn put_entry(out: &mut [u8], at: usize, shown: bool, entry: Option<Case>) -> usize
     ensures { Put out.old at (entry_text shown entry) out.new result }
 {
     match entry {
-        Entry::Skipped => text::saturating_add(at, 0),
-        Entry::Shown { case, target } => {
+        None => text::saturating_add(at, 0),
+        Some(c) => {
             let p = put_comma(out, at, shown);
             let p = text::put_byte(out, p, b' ');
-            let p = text::put_signed32(out, p, case);
+            let p = text::put_signed32(out, p, c.case);
             let p = text::put_bytes(out, p, b": @");
-            text::put_decimal(out, p, target)
+            text::put_decimal(out, p, c.target)
         }
     }
 }
@@ -242,11 +242,11 @@ fn put_comma(out: &mut [u8], at: usize, shown: bool) -> usize
     }
 }
 
-fn shown_after(shown: bool, entry: Entry) -> bool
+fn shown_after(shown: bool, entry: Option<Case>) -> bool
     ensures { result ≡ shown_after shown entry }
 {
     match entry {
-        Entry::Shown { case: _, target: _ } => true,
-        Entry::Skipped => shown,
+        Some(_) => true,
+        None => shown,
     }
 }

@@ -1,50 +1,29 @@
 -- Laws of the way back. Assumes nothing.
 use Prim.Native.Nat.{ℕ, zero, suc, ◌+◌, ◌-◌, ◌%◌, ◌^◌, ◌<◌}
 use mathlib.Core.Path.{◌≡◌, refl, sym, ap, ◌∙◌}
-use mathlib.Core.Bool.{Bool, true, false, ◌&&◌}
+use mathlib.Core.Bool.{Bool, true}
 use mathlib.Core.List.{List}
 use mathlib.Core.Logic.{⊎_elim}
 use native.Mathlib.Omega.{arith}
 use borrow.Author.Tests.{ltb-true, leb-true}
-use lib.Dec.{eqb, leb, ltb}
+use lib.Dec.{leb, ltb}
 use lib.IntN.{negsuc}
 use lib.ListN.{length, get_or, set}
 use lib.Seq.{get_or-set_same, get_or-set_other, ext_get_or}
-use mir.Syntax.{Width, w32, w64}
-use mir.Val.{Fits, bits, to_z}
+use mir.Syntax.{w32, w64}
+use mir.Val.{to_z}
 use mir.ValLaws.{to_z_pos}
-use Rattle.laws.proofs.Tests.{and_left, or_either, same?}
+use Rattle.laws.proofs.Tests.{or_either, same?}
 use Rattle.words.proofs.Signs.{to_z_high}
 use Rattle.operand.specs.declared.Operand.{Operand}
 use Rattle.operand.specs.declared.Operand.TheVariants.{Nothing}
 use Rattle.decoder.specs.declared.OperandRecord.{OperandRecord}
-use Rattle.decoder.specs.declared.Instr.{Instr}
 use Rattle.decoder.specs.Decode.{record_of}
-use Rattle.numbers.specs.Back.{is_i32, only, told_operand, told_at, told_from, told_scale, told_instr}
+use Rattle.numbers.specs.Back.{is_i32, only, told_at, told_from}
 
 -- ---- what a test lets pass
 pub only_yes : {t : Bool} → t ≡ true → (o : Operand) → o ≡ only t o
 only_yes h o = rw h refl
-
-pub only_no : {t : Bool} → t ≡ false → (o : Operand) → Nothing ≡ only t o
-only_no h o = rw h refl
-
-pub and_no : {s t : Bool} → s ≡ true → t ≡ false → (s && t) ≡ false
-and_no h e = rw (h, e) refl
-
-pub no_and : {s : Bool} (t : Bool) → s ≡ false → (s && t) ≡ false
-no_and t h = rw h refl
-
--- a test r of one number that a width holds
-module _ (w : Width) (a b : ℕ) (r : Bool) (e : r ≡ (ltb a (2 ^ bits w) && eqb b 0)) where
-  pub one_fits : r ≡ true → Fits w a
-  one_fits h = record { fits = ltb-true a (2 ^ bits w) (and_left (ltb a (2 ^ bits w)) (eqb b 0) (sym e ∙ h)) }
-
-  pub one_yes : r ≡ true → (o : Operand) → o ≡ only (ltb a (2 ^ bits w) && eqb b 0) o
-  one_yes h o = only_yes (sym e ∙ h) o
-
-  pub one_no : r ≡ false → (o : Operand) → Nothing ≡ only (ltb a (2 ^ bits w) && eqb b 0) o
-  one_no h o = only_no (sym e ∙ h) o
 
 -- ---- signed numbers
 -- the low 32 of 64 bits, where the number fits 32
@@ -63,21 +42,6 @@ narrow_is a fits h = ⊎_elim low high (or_either (ltb a (2 ^ 31)) (leb (2 ^ 64 
         let l = leb-true (2 ^ 64 - 2 ^ 31) a e in
         let m : (2 ^ 32 - 1) - a % 2 ^ 32 ≡ (2 ^ 64 - 1) - a = omega arith in
         to_z_high w32 (2 ^ 32 - 1) (a % 2 ^ 32) refl refl (omega arith) (omega arith) ∙ ap negsuc m ∙ sym (to_z_high w64 (2 ^ 64 - 1) a refl refl (omega arith) fits)
-
--- ---- no operand of another kind
-pub told_none : (k a b : ℕ) → (k ≡ 1 → ⊥) → (k ≡ 2 → ⊥) → (k ≡ 3 → ⊥) → (k ≡ 4 → ⊥) → (k ≡ 5 → ⊥) → (k ≡ 6 → ⊥) → (k ≡ 7 → ⊥) → (k ≡ 8 → ⊥) → (k ≡ 9 → ⊥) → Nothing ≡ told_operand k a b
-unfolding told_operand
-told_none zero a b n1 n2 n3 n4 n5 n6 n7 n8 n9 = refl
-told_none (suc zero) a b n1 n2 n3 n4 n5 n6 n7 n8 n9 = absurd (n1 refl)
-told_none (suc (suc zero)) a b n1 n2 n3 n4 n5 n6 n7 n8 n9 = absurd (n2 refl)
-told_none (suc (suc (suc zero))) a b n1 n2 n3 n4 n5 n6 n7 n8 n9 = absurd (n3 refl)
-told_none (suc (suc (suc (suc zero)))) a b n1 n2 n3 n4 n5 n6 n7 n8 n9 = absurd (n4 refl)
-told_none (suc (suc (suc (suc (suc zero))))) a b n1 n2 n3 n4 n5 n6 n7 n8 n9 = absurd (n5 refl)
-told_none (suc (suc (suc (suc (suc (suc zero)))))) a b n1 n2 n3 n4 n5 n6 n7 n8 n9 = absurd (n6 refl)
-told_none (suc (suc (suc (suc (suc (suc (suc zero))))))) a b n1 n2 n3 n4 n5 n6 n7 n8 n9 = absurd (n7 refl)
-told_none (suc (suc (suc (suc (suc (suc (suc (suc zero)))))))) a b n1 n2 n3 n4 n5 n6 n7 n8 n9 = absurd (n8 refl)
-told_none (suc (suc (suc (suc (suc (suc (suc (suc (suc zero))))))))) a b n1 n2 n3 n4 n5 n6 n7 n8 n9 = absurd (n9 refl)
-told_none (suc (suc (suc (suc (suc (suc (suc (suc (suc (suc k)))))))))) a b n1 n2 n3 n4 n5 n6 n7 n8 n9 = refl
 
 -- ---- the eight
 -- the first n of a run of records are those that the numbers tell
@@ -104,11 +68,3 @@ from_at ns j (suc n) (suc k) h = let e : j + 1 + k ≡ j + suc k = omega arith i
 pub slots_told : (ns : List ℕ) (rs : List OperandRecord) → length rs ≡ 8 → SlotsAre ns rs 8 → rs ≡ told_from ns 0 8
 slots_told ns rs len are =
     ext_get_or (record_of Nothing) rs (told_from ns 0 8) (len ∙ sym (from_length ns 0 8)) (λ k h. let l : k < 8 = omega (arith, len, h) in are k l ∙ sym (from_at ns 0 8 k l ∙ ap (told_at ns) (omega arith)))
-
--- ---- the instruction
-abbrev made : List ℕ → ℕ → List OperandRecord → Instr
-made ns scale rs = record { offset = 0; opcode = get_or ns 0 0 % 256; scale = scale; end = get_or ns 2 0; count = get_or ns 3 0; operands = rs }
-
-pub instr_made : (ns : List ℕ) (s : ℕ) (rs : List OperandRecord) → s ≡ told_scale (get_or ns 1 0) → rs ≡ told_from ns 0 8 → made ns s rs ≡ told_instr ns
-unfolding told_instr
-instr_made ns s rs e f = ap (λ (n : ℕ). made ns n rs) e ∙ ap (made ns (told_scale (get_or ns 1 0))) f

@@ -17,11 +17,8 @@ pub fn instr_numbers(instr: Instr) -> [u64; 28]
     ensures { NumbersAre instr result 28 }
 {
     let mut numbers = [0u64; 28];
-    let mut k: u8 = 0;
-    while k < 28 {
-        let v = instr_number(instr, k);
-        numbers[k as usize] = v;
-        k += 1;
+    for k in 0u8..28 {
+        numbers[k as usize] = instr_number(instr, k);
     }
     numbers
 }
@@ -48,9 +45,7 @@ fn operand_in(instr: Instr, j: u8) -> Operand
     requires { j < 8 }
     ensures { result ≡ operand_in instr j }
 {
-    let at = j as usize;
-    let op = instr.operands[at];
-    op.operand
+    instr.operands[j as usize].operand
 }
 
 // Number j of an operand: its kind, then two numbers.
@@ -75,6 +70,7 @@ pub fn bits_of(i: i32) -> u64
 // The way back.
 
 // The instruction that 28 numbers tell, at place 0: an operand that three of them do not tell is Nothing, a scale above 255 is 0.
+#[tactic(auto, unfolding(crate::specs::Back::told_instr))]
 pub fn instr_of(numbers: &[u64; 28]) -> Instr
     ensures { result ≡ told_instr numbers.now }
 {
@@ -113,11 +109,8 @@ fn operands_of(numbers: &[u64; 28]) -> [OperandRecord; 8]
         operand: Operand::Nothing,
     };
     let mut slots = [none; 8];
-    let mut j: usize = 0;
-    while j < 8 {
-        let slot = slot_of(numbers, j);
-        slots[j] = slot;
-        j += 1;
+    for j in 0..8 {
+        slots[j] = slot_of(numbers, j);
     }
     slots
 }
@@ -133,6 +126,7 @@ fn slot_of(numbers: &[u64; 28], j: usize) -> OperandRecord
 }
 
 // The operand that a kind and two numbers tell.
+#[tactic(auto, unfolding(crate::specs::Back::told_operand))]
 fn operand_of(kind: u64, a: u64, b: u64) -> Operand
     ensures { result ≡ told_operand kind a b }
 {
@@ -153,12 +147,8 @@ fn operand_of(kind: u64, a: u64, b: u64) -> Operand
 fn reg_of(a: u64, b: u64) -> Operand
     ensures { result ≡ only (is_i32 a && eqb b 0) (operand.Reg (to_z w64 a)) }
 {
-    if is_i32(a) {
-        if b == 0 {
-            Operand::Reg(narrow(a))
-        } else {
-            Operand::Nothing
-        }
+    if is_i32(a) && b == 0 {
+        Operand::Reg(narrow(a))
     } else {
         Operand::Nothing
     }
@@ -167,14 +157,10 @@ fn reg_of(a: u64, b: u64) -> Operand
 fn list_of(a: u64, b: u64) -> Operand
     ensures { result ≡ only (is_i32 a && ltb b (2 ^ 32)) (operand.RegList (to_z w64 a) b) }
 {
-    if is_i32(a) {
-        if b < 4294967296 {
-            Operand::RegList {
-                first: narrow(a),
-                count: b as u32,
-            }
-        } else {
-            Operand::Nothing
+    if is_i32(a) && b < 4294967296 {
+        Operand::RegList {
+            first: narrow(a),
+            count: b as u32,
         }
     } else {
         Operand::Nothing
@@ -258,18 +244,15 @@ fn raw_of(a: u64, b: u64) -> Operand
 fn is_one(a: u64, limit: u64, b: u64) -> bool
     ensures { result ≡ (ltb a limit && eqb b 0) }
 {
-    if a < limit { b == 0 } else { false }
+    a < limit && b == 0
 }
 
 // Whether 64 bits say a number that an i32 holds.
+#[tactic(auto, unfolding(crate::specs::Back::is_i32))]
 fn is_i32(a: u64) -> bool
     ensures { result ≡ is_i32 a }
 {
-    if a < 2147483648 {
-        true
-    } else {
-        18446744071562067968 <= a
-    }
+    a < 2147483648 || 18446744071562067968 <= a
 }
 
 // That number.

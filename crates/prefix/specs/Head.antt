@@ -3,20 +3,22 @@
 use Rattle.std.specs.Prelude.{ℕ, ◌+◌, List, cond, leb, ltb, eqb, length, get_or}
 use Rattle.refusal.specs.Check.{refusal_at}
 use Rattle.prefix.specs.declared.Head.{Head}
+use Rattle.refusal.specs.declared.Fault.{Fault}
+use Rattle.refusal.specs.declared.Fault.TheVariants as fault
 
 -- the opcode at place at with a scale, if a record has it: number 13 at the instruction's start where none has
 abbrev pub op_at : List ℕ → ℕ → ℕ → ℕ → ℕ → Head
-op_at code ops start scale at = cond (leb ops (get_or code at 0)) (Head.Refused (refusal_at 13 start)) (Head.Op (get_or code at 0) scale (at + 1))
+op_at code ops start scale at = cond (leb ops (get_or code at 0)) (Head.Refused (refusal_at fault.NoOpcode start)) (Head.Op (get_or code at 0) scale (at + 1))
 
--- behind a prefix: where the code ends there, refused by the number given, at the prefix
-abbrev pub behind : List ℕ → ℕ → ℕ → ℕ → ℕ → Head
-behind code ops start number scale = cond (eqb (start + 1) (length code)) (Head.Refused (refusal_at number start)) (op_at code ops start scale (start + 1))
+-- behind a prefix: where the code ends there, refused for the fault given, at the prefix
+abbrev pub behind : List ℕ → ℕ → ℕ → Fault → ℕ → Head
+behind code ops start fault scale = cond (eqb (start + 1) (length code)) (Head.Refused (refusal_at fault start)) (op_at code ops start scale (start + 1))
 
 -- number 20 beyond the end; the end; a Wide or an ExtraWide prefix; or an opcode
 unfoldable pub head_at : List ℕ → ℕ → ℕ → ℕ → ℕ → Head
 head_at code ops start wide extra =
-    cond (ltb (length code) start) (Head.Refused (refusal_at 20 start))
+    cond (ltb (length code) start) (Head.Refused (refusal_at fault.BeyondCode start))
     (cond (eqb start (length code)) Head.End
-    (cond (eqb (get_or code start 0) wide) (behind code ops start 11 2)
-    (cond (eqb (get_or code start 0) extra) (behind code ops start 12 4)
+    (cond (eqb (get_or code start 0) wide) (behind code ops start fault.EndsAfterWide 2)
+    (cond (eqb (get_or code start 0) extra) (behind code ops start fault.EndsAfterExtraWide 4)
     (op_at code ops start 1 start))))

@@ -4,7 +4,7 @@
 ghost use Rattle.std.specs.Prelude.{◌≡◌, ◌<◌, length};
 ghost use Rattle.prefix.specs.Head.{op_at, behind, head_at};
 
-use refusal::Refusal;
+use refusal::{Fault, Refusal};
 
 // The opcode at a place, behind any prefix.
 #[derive(Clone, Copy)]
@@ -15,12 +15,13 @@ pub enum Head {
 }
 
 // The opcode at a place; ops is the number of opcodes, wide and extra are the opcodes of the prefixes.
+#[tactic(auto, unfolding(crate::specs::Head::head_at))]
 pub fn head_at(code: &[u8], ops: usize, start: usize, wide: usize, extra: usize) -> Head
     ensures { result ≡ head_at code.now ops start wide extra }
 {
     if code.len() < start {
         return Head::Refused(Refusal {
-            number: refusal::BEYOND_CODE,
+            fault: Fault::BeyondCode,
             place: start,
         });
     }
@@ -29,10 +30,10 @@ pub fn head_at(code: &[u8], ops: usize, start: usize, wide: usize, extra: usize)
     }
     let prefix = words::byte_at(code, start) as usize;
     if prefix == wide {
-        return behind_prefix(code, ops, start, refusal::ENDS_AFTER_WIDE, 2);
+        return behind_prefix(code, ops, start, Fault::EndsAfterWide, 2);
     }
     if prefix == extra {
-        return behind_prefix(code, ops, start, refusal::ENDS_AFTER_EXTRA_WIDE, 4);
+        return behind_prefix(code, ops, start, Fault::EndsAfterExtraWide, 4);
     }
     op_at(code, ops, start, 1, start)
 }
@@ -45,7 +46,7 @@ fn op_at(code: &[u8], ops: usize, start: usize, scale: u8, at: usize) -> Head
     let opcode = words::byte_at(code, at);
     if ops <= opcode as usize {
         return Head::Refused(Refusal {
-            number: refusal::NO_OPCODE,
+            fault: Fault::NoOpcode,
             place: start,
         });
     }
@@ -56,15 +57,15 @@ fn op_at(code: &[u8], ops: usize, start: usize, scale: u8, at: usize) -> Head
     }
 }
 
-// The opcode behind a prefix at start; number is the refusal where the code ends there.
-fn behind_prefix(code: &[u8], ops: usize, start: usize, number: u8, scale: u8) -> Head
+// The opcode behind a prefix at start; fault is what is refused where the code ends there.
+fn behind_prefix(code: &[u8], ops: usize, start: usize, fault: Fault, scale: u8) -> Head
     requires { start < length code.now }
-    ensures { result ≡ behind code.now ops start number scale }
+    ensures { result ≡ behind code.now ops start fault scale }
 {
     let next = start + 1;
     if next == code.len() {
         return Head::Refused(Refusal {
-            number,
+            fault,
             place: start,
         });
     }

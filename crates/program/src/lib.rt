@@ -5,12 +5,11 @@ ghost use Rattle.std.specs.Prelude.{◌≡◌, length};
 ghost use Rattle.text.specs.Put.{Put};
 ghost use Rattle.text.specs.mirror.Written.{WrittenBy};
 ghost use Rattle.function.specs.Files.{files_of};
-ghost use Rattle.walk.specs.declared.Walked.TheVariants as walked;
+ghost use Rattle.search.specs.declared.Walked.TheVariants as walked;
 ghost use Rattle.walk.specs.Walk.{given_of};
 ghost use Rattle.program.specs.Printed.{refusal_text, within_limit, limited, shown, Printed, walk_text, walk_answer, WalkPrinted};
 
-use refusal::{Check, Refusal};
-use text::Written;
+use refusal::{Fault, Refusal};
 use walk::Walked;
 
 // The line `refused 14 at 1`.
@@ -18,7 +17,7 @@ fn put_refusal(out: &mut [u8], at: usize, r: Refusal) -> usize
     ensures { Put out.old at (refusal_text r) out.new result }
 {
     let p = text::put_bytes(out, at, b"refused ");
-    let p = text::put_decimal(out, p, r.number as u64);
+    let p = text::put_decimal(out, p, r.fault.number() as u64);
     let p = text::put_bytes(out, p, b" at ");
     let p = text::put_decimal(out, p, r.place as u64);
     text::put_byte(out, p, b'\n')
@@ -44,8 +43,8 @@ pub fn list_text(
         out, opcodes, types, runtime, intrinsic, layout, objects, slots, payload,
     );
     match listed {
-        Written::Done(n) => n,
-        Written::Refused(r) => put_refusal(out, 0, r),
+        Ok(n) => n,
+        Err(r) => put_refusal(out, 0, r),
     }
 }
 
@@ -60,7 +59,7 @@ fn list_limited(
     objects: &[u8],
     slots: &[u8],
     payload: &[u8],
-) -> Written
+) -> Result<usize, Refusal>
     ensures { WrittenBy (limited
         (files_of opcodes.now types.now runtime.now intrinsic.now layout.now
         objects.now slots.now payload.now) out.old) result out.new }
@@ -70,13 +69,11 @@ fn list_limited(
             out, opcodes, types, runtime, intrinsic, layout, objects, slots, payload, 0,
         );
     }
-    match tables::check_table(opcodes, types, runtime, intrinsic, layout) {
-        Check::Ok => Written::Refused(Refusal {
-            number: refusal::STORE_SIZE,
-            place: 0,
-        }),
-        Check::Refused(r) => Written::Refused(r),
-    }
+    tables::check_table(opcodes, types, runtime, intrinsic, layout)?;
+    Err(Refusal {
+        fault: Fault::StoreSize,
+        place: 0,
+    })
 }
 
 // What `jscd_walk` prints, from the start of the buffer on: the answer of the walk check on object 0 with handler records, which may be none, or the
@@ -104,19 +101,19 @@ pub fn walk_text(
 }
 
 // A line for the answer of a walk check.
-fn put_walked(out: &mut [u8], at: usize, walked: Walked) -> usize
+fn put_walked(out: &mut [u8], at: usize, walked: Result<Walked, Refusal>) -> usize
     ensures { Put out.old at (walk_text walked) out.new result }
 {
     match walked {
-        Walked::Closed => text::put_bytes(out, at, b"closed\n"),
-        Walked::Leaves(steps, offset) => put_leaves(out, at, steps, offset),
-        Walked::Refused(r) => put_refusal(out, at, r),
+        Ok(Walked::Closed) => text::put_bytes(out, at, b"closed\n"),
+        Ok(Walked::Leaves(steps, offset)) => put_leaves(out, at, steps, offset),
+        Err(r) => put_refusal(out, at, r),
     }
 }
 
 // The line `leaves steps 2 from 4`.
 fn put_leaves(out: &mut [u8], at: usize, steps: usize, offset: usize) -> usize
-    ensures { Put out.old at (walk_text (walked.Leaves steps offset)) out.new result }
+    ensures { Put out.old at (walk_text (Ok (walked.Leaves steps offset))) out.new result }
 {
     let p = text::put_bytes(out, at, b"leaves steps ");
     let p = text::put_decimal(out, p, steps as u64);
@@ -136,7 +133,7 @@ fn walk_marked(
     slots: &[u8],
     payload: &[u8],
     handlers: &[u8],
-) -> Walked
+) -> Result<Walked, Refusal>
     ensures { result ≡ walk_answer
         (files_of opcodes.now types.now runtime.now intrinsic.now layout.now
         objects.now slots.now payload.now) (given_of handlers.now) 65536 }
@@ -159,7 +156,7 @@ fn walk_limited(
     slots: &[u8],
     payload: &[u8],
     handlers: &[u8],
-) -> Walked
+) -> Result<Walked, Refusal>
     ensures { result ≡ walk_answer
         (files_of opcodes.now types.now runtime.now intrinsic.now layout.now
         objects.now slots.now payload.now) (given_of handlers.now) (length marks.old) }
@@ -169,24 +166,17 @@ fn walk_limited(
             marks, opcodes, types, runtime, intrinsic, layout, objects, slots, payload, 0, handlers,
         );
     }
-    match tables::check_table(opcodes, types, runtime, intrinsic, layout) {
-        Check::Ok => Walked::Refused(Refusal {
-            number: refusal::STORE_SIZE,
-            place: 0,
-        }),
-        Check::Refused(r) => Walked::Refused(r),
-    }
+    tables::check_table(opcodes, types, runtime, intrinsic, layout)?;
+    Err(Refusal {
+        fault: Fault::StoreSize,
+        place: 0,
+    })
 }
 
 // Store files of at most 65,536 bytes.
+#[tactic(auto, unfolding(crate::specs::Printed::within_limit))]
 fn within_limit(objects: usize, slots: usize, payload: usize) -> bool
     ensures { result ≡ within_limit objects slots payload }
 {
-    if 65536 < objects {
-        return false;
-    }
-    if 65536 < slots {
-        return false;
-    }
-    payload <= 65536
+    objects <= 65536 && slots <= 65536 && payload <= 65536
 }

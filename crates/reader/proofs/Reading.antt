@@ -12,22 +12,22 @@ use Rattle.reader.specs.Reading.{read_at, next_at}
 use Rattle.reader.specs.Numbers.{read_numbers}
 use Rattle.reader.proofs.Numbers.{read_numbers_one}
 use Rattle.reader.specs.declared.Stepped.{Stepped}
-use Rattle.reader.specs.declared.Read.TheVariants.{Found, End}
+use Rattle.std.specs.Prelude.{Some, None}
 
 module _ (s : List ℕ) (at : ℕ) where
-  found_below : {x : Slot} → read_at s at ≡ Found x → at < slot_count s
+  found_below : {x : Slot} → read_at s at ≡ Some x → at < slot_count s
   unfolding read_at
   found_below {x} h = go (ltb at (slot_count s)) refl h
     where
-      go : (t : Bool) → ltb at (slot_count s) ≡ t → cond t (Found (slot_of s at)) End ≡ Found x → at < slot_count s
+      go : (t : Bool) → ltb at (slot_count s) ≡ t → cond t (Some (slot_of s at)) None ≡ Some x → at < slot_count s
       go true e f = ltb-true at (slot_count s) e
       go false e f = let z : ◌≡◌ {A = ℕ} 0 1 = cc in absurd (omega arith)
 
-  end_from : read_at s at ≡ End → slot_count s ≤ at
+  end_from : read_at s at ≡ None → slot_count s ≤ at
   unfolding read_at
   end_from h = go (ltb at (slot_count s)) refl h
     where
-      go : (t : Bool) → ltb at (slot_count s) ≡ t → cond t (Found (slot_of s at)) End ≡ End → slot_count s ≤ at
+      go : (t : Bool) → ltb at (slot_count s) ≡ t → cond t (Some (slot_of s at)) None ≡ None → slot_count s ≤ at
       go true e f = let z : ◌≡◌ {A = ℕ} 0 1 = cc in absurd (omega arith)
       go false e f = ltb-false at (slot_count s) e
 
@@ -43,12 +43,12 @@ module _ (s : List ℕ) (at : ℕ) where
     reads : r.read ≡ read_at s at
     reads = read_numbers_one at r.read (read_at s at) e.0
 
-    pub found_moves : {x : Slot} → r.read ≡ Found x → (at < slot_count s) × (r.at ≡ at + 1)
+    pub found_moves : {x : Slot} → r.read ≡ Some x → (at < slot_count s) × (r.at ≡ at + 1)
     found_moves h =
         let b = found_below (sym reads ∙ h) in
         (b, e.1 ∙ moves b)
 
-    pub end_stays : r.read ≡ End → (slot_count s ≤ at) × (r.at ≡ at)
+    pub end_stays : r.read ≡ None → (slot_count s ≤ at) × (r.at ≡ at)
     end_stays h =
         let b = end_from (sym reads ∙ h) in
         (b, e.1 ∙ stays b)

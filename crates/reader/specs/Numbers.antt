@@ -2,9 +2,9 @@
 use Rattle.std.specs.Prelude.{ℕ, ◌∷◌, pos}
 use Rattle.refusal.specs.Numbers.{Numbers, finds, end_at}
 use Rattle.store.specs.Numbers.{value_fields}
-use Rattle.reader.specs.declared.Read.{Read}
-use Rattle.reader.specs.declared.Read.TheVariants.{Found, End}
+use Rattle.std.specs.Prelude.{Option, Some, None}
+use Rattle.store.specs.declared.Slot.{Slot}
 
-abbrev pub read_numbers : ℕ → Read → Numbers
-read_numbers at (Found slot) = finds (pos slot.index ∷ value_fields slot.value)
-read_numbers at End = end_at at
+abbrev pub read_numbers : ℕ → Option Slot → Numbers
+read_numbers at (Some slot) = finds (pos slot.index ∷ value_fields slot.value)
+read_numbers at None = end_at at

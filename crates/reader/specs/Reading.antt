@@ -1,12 +1,12 @@
 -- What a slot reader finds, and where its cursor goes (01: "a small slot reader that keeps the lent slot bytes and a position").
 use Rattle.std.specs.Prelude.{ℕ, ◌+◌, cond, List, ltb}
 use Rattle.store.specs.Records.{slot_of, slot_count}
-use Rattle.reader.specs.declared.Read.{Read}
-use Rattle.reader.specs.declared.Read.TheVariants.{Found, End}
+use Rattle.std.specs.Prelude.{Option, Some, None}
+use Rattle.store.specs.declared.Slot.{Slot}
 
 -- the slot at a record, where a whole record stands there
-unfoldable pub read_at : List ℕ → ℕ → Read
-read_at s at = cond (ltb at (slot_count s)) (Found (slot_of s at)) End
+unfoldable pub read_at : List ℕ → ℕ → Option Slot
+read_at s at = cond (ltb at (slot_count s)) (Some (slot_of s at)) None
 
 -- the cursor behind the slot found; at the end it stays
 unfoldable pub next_at : List ℕ → ℕ → ℕ

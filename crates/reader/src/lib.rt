@@ -16,16 +16,10 @@ pub struct SlotReader<'a> {
     pub at: usize,
 }
 
-#[derive(Clone, Copy)]
-pub enum Read {
-    Found(Slot),
-    End,
-}
-
 // What was read, and the cursor behind it.
 #[derive(Clone, Copy)]
 pub struct Stepped {
-    pub read: Read,
+    pub read: Option<Slot>,
     pub at: usize,
 }
 
@@ -37,7 +31,7 @@ pub fn new<'a>(slots: &'a [u8], at: usize) -> SlotReader<'a>
 }
 
 // The slot at the cursor, which moves to the next record; or the end, where the cursor stays.
-pub fn next<'s, 'a>(r: &'s mut SlotReader<'a>) -> Read
+pub fn next<'s, 'a>(r: &'s mut SlotReader<'a>) -> Option<Slot>
     ensures { (read_numbers r.old.at result
         ≡ read_numbers r.old.at (read_at r.old.slots.now r.old.at))
         × (r.new.slots ≡ r.old.slots)
@@ -65,22 +59,20 @@ pub fn slots_read(slots: &[u8]) -> usize
     let mut at = 0;
     loop {
         let step = read_step(slots, at);
+        let Some(_) = step.read else {
+            return at;
+        };
         at = step.at;
-        let read = step.read;
-        match read {
-            Read::Found(_) => {}
-            Read::End => return at,
-        }
     }
 }
 
-fn read_at(slots: &[u8], at: usize) -> Read
+fn read_at(slots: &[u8], at: usize) -> Option<Slot>
     ensures { result ≡ read_at slots.now at }
 {
     if at < store::slot_count(slots) {
-        Read::Found(store::slot_of(slots, at))
+        Some(store::slot_of(slots, at))
     } else {
-        Read::End
+        None
     }
 }
 

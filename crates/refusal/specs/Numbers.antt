@@ -1,10 +1,10 @@
 -- Answers in 01's numbers. 01: "An answer, or a refusal: its number and a place." "When an answer is an enum, a definition gives this paper's number
 -- and values for each of its cases." Each enum's definition stands beside it; the calls promise through it, those for C too.
--- A refusal has no values, any other answer has at least one: so no refusal, whatever number it holds, is told as another answer.
-use Rattle.std.specs.Prelude.{ℕ, List, [], ◌∷◌, ℤ, pos}
+-- A refusal has no values, any other answer has at least one: so no refusal is told as another answer.
+use Rattle.std.specs.Prelude.{ℕ, List, [], ◌∷◌, ℤ, pos, Ok, Err}
 use Rattle.refusal.specs.declared.Refusal.{Refusal}
-use Rattle.refusal.specs.declared.Check.{Check}
-use Rattle.refusal.specs.declared.Check.TheVariants.{Ok, Refused}
+use Rattle.refusal.specs.Check.{Check}
+use Rattle.refusal.specs.Fault.{number_of}
 
 -- the number is 01's for a refusal, 0 for an answer, 254 for "leaves" and 255 for "end"
 pub record Numbers : Type 0 where
@@ -13,7 +13,7 @@ pub record Numbers : Type 0 where
   pub values : List ℤ
 
 abbrev pub refusal_numbers : Refusal → Numbers
-refusal_numbers r = record { number = r.number; place = r.place; values = [] }
+refusal_numbers r = record { number = number_of r.fault; place = r.place; values = [] }
 
 -- an answer that has values and no place
 abbrev pub answered : List ℤ → Numbers
@@ -32,5 +32,5 @@ end_at start = record { number = 255; place = start; values = pos 0 ∷ [] }
 
 -- a check finds a fault, or nothing
 abbrev pub check_numbers : Check → Numbers
-check_numbers Ok = finds_nothing
-check_numbers (Refused r) = refusal_numbers r
+check_numbers (Ok tt) = finds_nothing
+check_numbers (Err r) = refusal_numbers r

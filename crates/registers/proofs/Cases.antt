@@ -9,7 +9,7 @@ use Rattle.operand.specs.declared.Operand.TheVariants.{Reg, RegList, Imm}
 use Rattle.decoder.specs.declared.OperandRecord.{OperandRecord}
 use Rattle.decoder.specs.declared.Instr.{Instr}
 use Rattle.registers.specs.Registers.{with_operands, max_register}
-use Rattle.registers.specs.declared.Largest.TheVariants as largest
+use Rattle.std.specs.Prelude.{Some, None}
 
 abbrev of : Operand → OperandRecord
 of x = record { operand = x }
@@ -21,11 +21,11 @@ instr count xs = record { offset = 0; opcode = 0; scale = 1; end = 0; count = co
 pub some_case : max_register
     (instr 3 (of (Reg (negsuc 2)) ∷ of (Imm (pos 9)) ∷ of (RegList (pos 5) 2) ∷ [])
     ∷ instr 2 (of (RegList (pos 7) 0) ∷ of (RegList (pos 2147483647) 2) ∷ [])
-    ∷ []) ≡ largest.Register 7
+    ∷ []) ≡ Some 7
 unfolding with_operands modulo wrap32
 some_case = refl
 
 -- none but those below 0 and one behind the count
-pub none_case : max_register (instr 2 (of (Reg (negsuc 0)) ∷ of (RegList (negsuc 3) 0) ∷ of (Reg (pos 4)) ∷ []) ∷ []) ≡ largest.Nothing
+pub none_case : max_register (instr 2 (of (Reg (negsuc 0)) ∷ of (RegList (negsuc 3) 0) ∷ of (Reg (pos 4)) ∷ []) ∷ []) ≡ None
 unfolding with_operands modulo wrap32
 none_case = refl

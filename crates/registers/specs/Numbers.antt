@@ -1,9 +1,8 @@
 -- The largest register in 01's numbers.
-use Rattle.std.specs.Prelude.{[], ◌∷◌, pos}
+use Rattle.std.specs.Prelude.{ℕ, [], ◌∷◌, pos}
 use Rattle.refusal.specs.Numbers.{Numbers, finds, finds_nothing}
-use Rattle.registers.specs.declared.Largest.{Largest}
-use Rattle.registers.specs.declared.Largest.TheVariants as largest
+use Rattle.std.specs.Prelude.{Option, Some, None}
 
-abbrev pub largest_numbers : Largest → Numbers
-largest_numbers (largest.Register n) = finds (pos n ∷ [])
-largest_numbers largest.Nothing = finds_nothing
+abbrev pub largest_numbers : Option ℕ → Numbers
+largest_numbers (Some n) = finds (pos n ∷ [])
+largest_numbers None = finds_nothing

@@ -5,16 +5,15 @@ use Rattle.operand.specs.declared.Operand.{Operand}
 use Rattle.operand.specs.declared.Operand.TheVariants.{Nothing, Reg, RegList, Imm, Idx, Flag8, Flag16, RuntimeId, IntrinsicId, Raw}
 use Rattle.decoder.specs.declared.OperandRecord.{OperandRecord}
 use Rattle.decoder.specs.declared.Instr.{Instr}
-use Rattle.registers.specs.declared.Largest.{Largest}
-use Rattle.registers.specs.declared.Largest.TheVariants as largest
+use Rattle.std.specs.Prelude.{Option, Some, None}
 
 -- the larger of a number and what was largest
-abbrev pub larger : Largest → ℕ → Largest
-larger largest.Nothing n = largest.Register n
-larger (largest.Register m) n = largest.Register (max m n)
+abbrev pub larger : Option ℕ → ℕ → Option ℕ
+larger None n = Some n
+larger (Some m) n = Some (max m n)
 
 -- `negsuc n` is -(n + 1): a register below 0 does not count
-abbrev pub with_register : Largest → ℤ → Largest
+abbrev pub with_register : Option ℕ → ℤ → Option ℕ
 with_register best (pos n) = larger best n
 with_register best (negsuc n) = best
 
@@ -23,7 +22,7 @@ abbrev pub list_end : ℤ → ℕ → ℤ
 list_end first zero = first
 list_end first (suc n) = list_last first (suc n)
 
-abbrev pub with_operand : Largest → Operand → Largest
+abbrev pub with_operand : Option ℕ → Operand → Option ℕ
 with_operand best Nothing = best
 with_operand best (Reg index) = with_register best index
 with_operand best (RegList first count) = with_register best (list_end first count)
@@ -35,18 +34,18 @@ with_operand best (RuntimeId v) = best
 with_operand best (IntrinsicId v) = best
 with_operand best (Raw t v) = best
 
-unfoldable pub with_operands : Largest → List OperandRecord → Largest
+unfoldable pub with_operands : Option ℕ → List OperandRecord → Option ℕ
 with_operands best [] = best
 with_operands best (x ∷ xs) = with_operands (with_operand best x.operand) xs
 
 -- an instruction's operands are the first count of the eight
-abbrev pub with_instr : Largest → Instr → Largest
+abbrev pub with_instr : Option ℕ → Instr → Option ℕ
 with_instr best x = with_operands best (take (min x.count 8) x.operands)
 
-abbrev pub with_instrs : Largest → List Instr → Largest
+abbrev pub with_instrs : Option ℕ → List Instr → Option ℕ
 with_instrs best [] = best
 with_instrs best (x ∷ xs) = with_instrs (with_instr best x) xs
 
 -- the largest register of a run of instructions
-abbrev pub max_register : List Instr → Largest
-max_register xs = with_instrs largest.Nothing xs
+abbrev pub max_register : List Instr → Option ℕ
+max_register xs = with_instrs None xs

@@ -1,53 +1,40 @@
 // The largest register of a lent run of instructions.
 #![tactic(auto)]
 
-ghost use Rattle.std.specs.Prelude.{◌≡◌, min};
+ghost use Rattle.std.specs.Prelude.{◌≡◌};
 ghost use Rattle.registers.specs.Registers.{with_register, with_operand, with_instr, max_register};
 ghost use Rattle.registers.specs.Numbers.{largest_numbers};
 
 use decoder::Instr;
 use operand::Operand;
 
-// The largest register, where there is one.
-#[derive(Clone, Copy)]
-pub enum Largest {
-    Register(u32),
-    Nothing,
-}
-
 // The largest register of a run of instructions; one below 0 does not count.
-pub fn max_register(instrs: &[Instr]) -> Largest
+pub fn max_register(instrs: &[Instr]) -> Option<u32>
     ensures { largest_numbers result ≡ largest_numbers (max_register instrs.now) }
 {
-    let mut best = Largest::Nothing;
-    let mut i: usize = 0;
-    while i < instrs.len() {
-        best = with_instr(best, instrs[i]);
-        i += 1;
+    let mut best = None;
+    for x in instrs {
+        best = with_instr(best, *x);
     }
     best
 }
 
 // The larger of a register and what was largest.
-fn with_register(best: Largest, index: i32) -> Largest
+fn with_register(best: Option<u32>, index: i32) -> Option<u32>
     ensures { result ≡ with_register best index }
 {
     if words::is_negative(words::wide(index)) {
         return best;
     }
     let n = words::bits32(index);
-    let Largest::Register(m) = best else {
-        return Largest::Register(n);
-    };
-    if m < n {
-        Largest::Register(n)
-    } else {
-        Largest::Register(m)
+    match best {
+        Some(m) => Some(m.max(n)),
+        None => Some(n),
     }
 }
 
 // A list counts with its last register, an empty one with its first.
-fn with_operand(best: Largest, operand: Operand) -> Largest
+fn with_operand(best: Option<u32>, operand: Operand) -> Option<u32>
     ensures { result ≡ with_operand best operand }
 {
     match operand {
@@ -63,26 +50,13 @@ fn with_operand(best: Largest, operand: Operand) -> Largest
     }
 }
 
-// How many of the eight operands are an instruction's.
-fn used(count: usize) -> usize
-    ensures { result ≡ min count 8 }
-{
-    if count < 8 { count } else { 8 }
-}
-
 // The largest register of an instruction, and what was largest.
-fn with_instr(best: Largest, x: Instr) -> Largest
+fn with_instr(best: Option<u32>, x: Instr) -> Option<u32>
     ensures { result ≡ with_instr best x }
 {
-    let n = used(x.count);
-    let operands = x.operands;
     let mut b = best;
-    let mut i: usize = 0;
-    while i < n {
-        let record = operands[i];
-        let operand = record.operand;
-        b = with_operand(b, operand);
-        i += 1;
+    for i in 0..x.count.min(8) {
+        b = with_operand(b, x.operands[i].operand);
     }
     b
 }

@@ -1,19 +1,18 @@
 // Targets and entries of an instruction of lent code, with the pool of an object or without a pool.
-use function::PoolObject;
 use jumps::{EntryAnswer, TableAnswer, TargetAnswer};
-use targets::{Entries, Entry, Pool};
+use targets::{Case, Entries, PoolSlots};
 use vectors::items::{Files, behind, file};
 use vectors::said;
 
 // In place of an object's number: no store and no pool.
 const NO_OBJECT: u64 = 18446744073709551615;
 
-fn pool_object(call: &[u8]) -> PoolObject {
+fn pool_object(call: &[u8]) -> Option<usize> {
     let object = words::u64_at(call, 0);
     if object == NO_OBJECT {
-        return PoolObject::Nothing;
+        return None;
     }
-    PoolObject::Object(object as usize)
+    Some(object as usize)
 }
 
 // 8: the target of a jump.
@@ -126,17 +125,15 @@ fn are_shown(
     slots: &[u8],
     payload: &[u8],
     ts: u8,
-    pool: Pool,
+    pool: Option<PoolSlots>,
     here: u64,
     entries: Entries,
     said: &[u8],
 ) -> bool {
     let mut seen = none_seen(said);
-    let mut k: u16 = 0;
-    while k < entries.count {
+    for k in 0..entries.count {
         let entry = targets::jump_entry_unchecked(slots, payload, ts, pool, here, entries, k);
         seen = seen_after(said, seen, entry);
-        k += 1;
     }
     is_all(said, seen)
 }
@@ -149,11 +146,11 @@ fn none_seen(said: &[u8]) -> Seen {
     }
 }
 
-fn seen_after(said: &[u8], seen: Seen, entry: Entry) -> Seen {
+fn seen_after(said: &[u8], seen: Seen, entry: Option<Case>) -> Seen {
     match entry {
-        Entry::Skipped => seen,
-        Entry::Shown { case, target } => {
-            let same = said::are_2(said, seen.at, words::bits64(words::wide(case)), target);
+        None => seen,
+        Some(c) => {
+            let same = said::are_2(said, seen.at, words::bits64(words::wide(c.case)), c.target);
             Seen {
                 at: text::saturating_add(seen.at, 16),
                 shown: std::num::wrapping_add_u64(seen.shown, 1),

@@ -1,6 +1,5 @@
 // Numbers in slots, and headers.
-use header::{Header, HeaderAnswer, Num, NumAnswer, SmiAnswer};
-use serializer::Smi;
+use header::Header;
 use vectors::items::{Files, behind, file};
 use vectors::said;
 
@@ -15,15 +14,15 @@ pub fn smi_slot(bytes: &[u8], files: Files, call: &[u8]) -> bool {
         words::u64_at(call, 8),
     );
     match answer {
-        SmiAnswer::Smi(smi) => is_smi(behind(call, 16), smi),
-        SmiAnswer::Refused(refusal) => said::is_refused(behind(call, 16), refusal),
+        Ok(smi) => is_smi(behind(call, 16), smi),
+        Err(refusal) => said::is_refused(behind(call, 16), refusal),
     }
 }
 
-fn is_smi(said: &[u8], smi: Smi) -> bool {
+fn is_smi(said: &[u8], smi: Option<i64>) -> bool {
     match smi {
-        Smi::Value(v) => said::is_number(said, words::bits64(v)),
-        Smi::Nothing => said::is_nothing(said),
+        Some(v) => said::is_number(said, words::bits64(v)),
+        None => said::is_nothing(said),
     }
 }
 
@@ -39,15 +38,15 @@ pub fn num_field(bytes: &[u8], files: Files, call: &[u8]) -> bool {
         words::u64_at(call, 16) == 1,
     );
     match answer {
-        NumAnswer::Num(num) => is_num(behind(call, 24), num),
-        NumAnswer::Refused(refusal) => said::is_refused(behind(call, 24), refusal),
+        Ok(num) => is_num(behind(call, 24), num),
+        Err(refusal) => said::is_refused(behind(call, 24), refusal),
     }
 }
 
-fn is_num(said: &[u8], num: Num) -> bool {
+fn is_num(said: &[u8], num: Option<u32>) -> bool {
     match num {
-        Num::Is(n) => said::is_number(said, n as u64),
-        Num::Nothing => said::is_nothing(said),
+        Some(n) => said::is_number(said, n as u64),
+        None => said::is_nothing(said),
     }
 }
 
@@ -61,8 +60,8 @@ pub fn header(bytes: &[u8], files: Files, call: &[u8]) -> bool {
         words::u64_at(call, 0) as usize,
     );
     match answer {
-        HeaderAnswer::At(header) => is_header(behind(call, 8), header),
-        HeaderAnswer::Refused(refusal) => said::is_refused(behind(call, 8), refusal),
+        Ok(header) => is_header(behind(call, 8), header),
+        Err(refusal) => said::is_refused(behind(call, 8), refusal),
     }
 }
 

@@ -1,18 +1,10 @@
 // The calls for C that list an object, and that answer a target or an entry of lent code.
-use refusal::Refusal;
 use vectors::items::{Files, behind, file};
 use vectors::said;
 
 // No file is longer than a program reads.
 pub fn is_short(files: Files) -> bool {
-    let mut k: usize = 0;
-    while k < 8 {
-        if 65536 < files.len[k] {
-            return false;
-        }
-        k += 1;
-    }
-    true
+    files.len[..8].iter().all(|&n| n <= 65536)
 }
 
 // 0: with 65,536 bytes lent.
@@ -50,11 +42,7 @@ fn is_told(said: &[u8], status: u8, place: usize, out: &[u8]) -> bool {
     if status == 0 {
         return said::is_text(said, out, place) && said::are_kept(out, place);
     }
-    let refusal = Refusal {
-        number: status,
-        place,
-    };
-    said::is_refused(said, refusal) && said::are_kept(out, 0)
+    said::is_refused_by(said, status, place) && said::are_kept(out, 0)
 }
 
 // In place of an object's number: no store and no pool.
@@ -89,7 +77,7 @@ pub fn target(bytes: &[u8], files: Files, call: &[u8]) -> bool {
     match status {
         0 => place == 0 && is_target(said, values[0], values[1]),
         255 => place == at && said::is_end(said),
-        _ => is_refused(said, status, place),
+        _ => said::is_refused_by(said, status, place),
     }
 }
 
@@ -126,7 +114,7 @@ pub fn entry(bytes: &[u8], files: Files, call: &[u8]) -> bool {
     match status {
         0 => place == 0 && is_entry(said, values[0], values[1], values[2]),
         255 => place == at && said::is_end(said),
-        _ => is_refused(said, status, place),
+        _ => said::is_refused_by(said, status, place),
     }
 }
 
@@ -137,14 +125,4 @@ fn is_entry(said: &[u8], kind: u64, case: u64, target: u64) -> bool {
         3 => said::is_number(said, 2),
         _ => kind == 0 && said::is_nothing(said),
     }
-}
-
-fn is_refused(said: &[u8], status: u8, place: usize) -> bool {
-    said::is_refused(
-        said,
-        Refusal {
-            number: status,
-            place,
-        },
-    )
 }

@@ -1,5 +1,4 @@
 // Whole listings of object 0.
-use text::Written;
 use vectors::items::{Files, Part, file, lent};
 use vectors::said;
 
@@ -71,7 +70,7 @@ fn long_listing_in(bytes: &[u8], files: Files, call: &[u8], out: &mut [u8]) -> b
         0,
     );
     match listed {
-        Written::Done(n) => said::is_text(call, out, n),
-        Written::Refused(refusal) => said::is_refused(call, refusal),
+        Ok(n) => said::is_text(call, out, n),
+        Err(refusal) => said::is_refused(call, refusal),
     }
 }

@@ -8,7 +8,7 @@ mod listings;
 mod shown;
 
 use vectors::counts::{Counts, Outcome, counted, judged, no_counts, numbered, with_unknown};
-use vectors::items::{Files, Item, Part, What, files_after, item_at, kind_of, lent, no_files};
+use vectors::items::{Files, Item, Items, Part, What, files_after, kind_of, lent, no_files};
 use vectors::lines::{Total, both, print_counts, print_total, print_wrong, read};
 
 fn main(rt: HostRuntime) {
@@ -62,12 +62,9 @@ fn relist_with(
 fn ask_file(bytes: &[u8]) -> Counts {
     let mut counts = no_counts();
     let mut files = no_files();
-    let mut at = 0;
-    while at < bytes.len() {
-        let item = item_at(bytes, at);
+    for item in Items::new(bytes) {
         files = files_after(bytes, files, item);
         counts = counts_after(bytes, files, counts, item);
-        at = item.next;
     }
     counts
 }

@@ -1,15 +1,12 @@
 // Prints the listings of a vector file: what the listing program prints for the same files.
 use crate::listings;
-use vectors::items::{Files, Part, files_after, item_at, lent, no_files};
+use vectors::items::{Files, Items, Part, files_after, lent, no_files};
 
 pub fn show_file(rt: &impl Print, bytes: &[u8]) {
     let mut files = no_files();
-    let mut at = 0;
-    while at < bytes.len() {
-        let item = item_at(bytes, at);
+    for item in Items::new(bytes) {
         files = files_after(bytes, files, item);
         show_item(rt, bytes, files, item.kind);
-        at = item.next;
     }
 }
 

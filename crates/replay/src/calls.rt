@@ -1,7 +1,8 @@
 // One recorded call: our own function is asked on the same files, and its answer compared with the recorded one. A further function
 // is an arm in `replayed` and a function of its own, here, in `slots` or in `instructions`.
 use crate::{for_c, instructions, slots};
-use serializer::{Elem, ElemAnswer, LenAnswer, OffAnswer, RawAnswer, Smi};
+use refusal::Refusal;
+use serializer::Elem;
 use tables::Form;
 use vectors::counts::{Outcome, judged};
 use vectors::items::{Files, Part, behind, file, lent};
@@ -75,9 +76,15 @@ fn raw_at(bytes: &[u8], files: Files, call: &[u8]) -> bool {
     is_raw(behind(call, 24), answer, part, payload, len)
 }
 
-fn is_raw(said: &[u8], answer: RawAnswer, part: &[u8], payload: &[u8], len: u64) -> bool {
+fn is_raw(
+    said: &[u8],
+    answer: Result<Option<usize>, Refusal>,
+    part: &[u8],
+    payload: &[u8],
+    len: u64,
+) -> bool {
     match answer {
-        RawAnswer::At(at) => {
+        Ok(Some(at)) => {
             let wanted = Part {
                 at,
                 len: len as usize,
@@ -87,13 +94,13 @@ fn is_raw(said: &[u8], answer: RawAnswer, part: &[u8], payload: &[u8], len: u64)
             }
             said::is_number(said, at as u64)
         }
-        RawAnswer::Nothing => {
+        Ok(None) => {
             if part.len() != 0 {
                 return false;
             }
             said::is_nothing(said)
         }
-        RawAnswer::Refused(refusal) => {
+        Err(refusal) => {
             if part.len() != 0 {
                 return false;
             }
@@ -109,8 +116,8 @@ fn array_len(bytes: &[u8], files: Files, call: &[u8]) -> bool {
     let ts = tagged_size(bytes, files);
     let object = words::u64_at(call, 0) as usize;
     match serializer::array_len(objects, slots, payload, ts, object) {
-        LenAnswer::Len(n) => said::is_number(behind(call, 8), n),
-        LenAnswer::Refused(refusal) => said::is_refused(behind(call, 8), refusal),
+        Ok(n) => said::is_number(behind(call, 8), n),
+        Err(refusal) => said::is_refused(behind(call, 8), refusal),
     }
 }
 
@@ -122,19 +129,19 @@ fn array_elem(bytes: &[u8], files: Files, call: &[u8]) -> bool {
     let object = words::u64_at(call, 0) as usize;
     let element = words::u64_at(call, 8);
     match serializer::array_elem(objects, slots, payload, ts, object, element) {
-        ElemAnswer::Elem(elem) => is_elem(behind(call, 16), elem),
-        ElemAnswer::Refused(refusal) => said::is_refused(behind(call, 16), refusal),
+        Ok(elem) => is_elem(behind(call, 16), elem),
+        Err(refusal) => said::is_refused(behind(call, 16), refusal),
     }
 }
 
-fn is_elem(said: &[u8], elem: Elem) -> bool {
+fn is_elem(said: &[u8], elem: Option<Elem>) -> bool {
     match elem {
-        Elem::Object(n) => said::is_numbers_2(said, 0, n as u64),
-        Elem::Root => said::is_number(said, 1),
-        Elem::OtherRef => said::is_number(said, 2),
-        Elem::Smi(v) => said::is_numbers_2(said, 3, words::bits64(v)),
-        Elem::Bytes(span) => said::is_numbers_3(said, 4, span.at as u64, span.len as u64),
-        Elem::Nothing => said::is_nothing(said),
+        Some(Elem::Object(n)) => said::is_numbers_2(said, 0, n as u64),
+        Some(Elem::Root) => said::is_number(said, 1),
+        Some(Elem::OtherRef) => said::is_number(said, 2),
+        Some(Elem::Smi(v)) => said::is_numbers_2(said, 3, words::bits64(v)),
+        Some(Elem::Bytes(span)) => said::is_numbers_3(said, 4, span.at as u64, span.len as u64),
+        None => said::is_nothing(said),
     }
 }
 
@@ -150,8 +157,8 @@ fn bca_rt_off(bytes: &[u8], files: Files, call: &[u8]) -> bool {
         return false;
     }
     match serializer::bca_rt_off(objects, slots, payload, ts, unit, object, off) {
-        OffAnswer::Off(n) => said::is_number(behind(call, 16), n),
-        OffAnswer::Refused(refusal) => said::is_refused(behind(call, 16), refusal),
+        Ok(n) => said::is_number(behind(call, 16), n),
+        Err(refusal) => said::is_refused(behind(call, 16), refusal),
     }
 }
 
@@ -161,8 +168,8 @@ fn decode_smi_bytes(call: &[u8]) -> bool {
     let rest = behind(call, 8);
     let given = Part { at: 0, len: n };
     match serializer::decode_smi_bytes(lent(rest, given)) {
-        Smi::Value(v) => said::is_number(behind(rest, n), words::bits64(v)),
-        Smi::Nothing => said::is_nothing(behind(rest, n)),
+        Some(v) => said::is_number(behind(rest, n), words::bits64(v)),
+        None => said::is_nothing(behind(rest, n)),
     }
 }
 

@@ -1,5 +1,4 @@
 // The calls for C that decode and write one instruction, and that convert opcode files.
-use refusal::Refusal;
 use tables::Form;
 use vectors::counts::{Outcome, judged};
 use vectors::items::{Files, behind, file, first};
@@ -27,25 +26,12 @@ fn is_told(said: &[u8], start: usize, status: u8, place: usize, numbers: [u64; 2
     match status {
         0 => is_instr(said, place, numbers),
         255 => said::is_end(said) && place == start && are_kept(numbers),
-        _ => {
-            let refusal = Refusal {
-                number: status,
-                place,
-            };
-            said::is_refused(said, refusal) && are_kept(numbers)
-        }
+        _ => { said::is_refused_by(said, status, place) && are_kept(numbers) }
     }
 }
 
 fn are_kept(numbers: [u64; 28]) -> bool {
-    let mut k: usize = 0;
-    while k < 28 {
-        if numbers[k] != 7 {
-            return false;
-        }
-        k += 1;
-    }
-    true
+    numbers.iter().all(|&n| n == 7)
 }
 
 // The place is where the instruction ends.
@@ -60,12 +46,10 @@ fn is_instr(said: &[u8], place: usize, numbers: [u64; 28]) -> bool {
 }
 
 fn are_numbers(said: &[u8], count: u64, numbers: [u64; 28]) -> bool {
-    let mut k: u8 = 0;
-    while k < 28 {
+    for k in 0..28u8 {
         if numbers[k as usize] != number(said, count, k) {
             return false;
         }
-        k += 1;
     }
     true
 }
@@ -143,20 +127,14 @@ fn is_put(said: &[u8], status: u8, place: usize, out: &[u8]) -> bool {
     if status == 0 {
         return said::is_text(said, out, place) && said::are_kept(out, place);
     }
-    let refusal = Refusal {
-        number: status,
-        place,
-    };
-    said::is_refused(said, refusal) && said::are_kept(out, 0)
+    said::is_refused_by(said, status, place) && said::are_kept(out, 0)
 }
 
 // The 28 numbers that a call begins with.
 fn numbers_of(call: &[u8]) -> [u64; 28] {
     let mut numbers = [0u64; 28];
-    let mut k: usize = 0;
-    while k < 28 {
+    for k in 0..28 {
         numbers[k] = words::u64_at(call, 8 * k);
-        k += 1;
     }
     numbers
 }

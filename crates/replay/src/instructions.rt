@@ -1,7 +1,7 @@
 // Calls on lent code: one instruction decoded, and its registers, operands and whole text.
 use decoder::{Decoded, Instr, Outcome};
 use operand::Operand;
-use refusal::Check;
+use refusal::Refusal;
 use tables::Frame;
 use vectors::items::{Files, Part, behind, file, lent};
 use vectors::said;
@@ -43,8 +43,8 @@ fn reg_name_in(bytes: &[u8], files: Files, call: &[u8], out: &mut [u8]) -> bool 
 pub fn render_operand(bytes: &[u8], files: Files, call: &[u8]) -> bool {
     let said = behind(call, 24);
     match checked(bytes, files) {
-        Check::Refused(refusal) => said::is_refused(said, refusal),
-        Check::Ok => {
+        Err(refusal) => said::is_refused(said, refusal),
+        Ok(()) => {
             let start = words::u64_at(call, 0) as usize;
             let code = file(bytes, files, CODE);
             is_operand_of(bytes, files, call, instr_of(bytes, files, code, start))
@@ -83,8 +83,8 @@ fn is_written_in(bytes: &[u8], files: Files, call: &[u8], op: Operand, out: &mut
 pub fn instruction_text(bytes: &[u8], files: Files, call: &[u8]) -> bool {
     let said = behind(call, 16);
     match checked(bytes, files) {
-        Check::Refused(refusal) => said::is_refused(said, refusal),
-        Check::Ok => {
+        Err(refusal) => said::is_refused(said, refusal),
+        Ok(()) => {
             let start = words::u64_at(call, 0) as usize;
             let code = file(bytes, files, CODE);
             is_text_of(bytes, files, call, instr_of(bytes, files, code, start))
@@ -127,11 +127,9 @@ fn put_operands(
     instr: Instr,
 ) -> usize {
     let mut p = at;
-    let mut k: usize = 0;
-    while k < instr.count {
+    for k in 0..instr.count {
         p = put_between(out, p, k);
         p = put_operand(out, p, bytes, files, params, operand_of(instr, k));
-        k += 1;
     }
     p
 }
@@ -182,19 +180,14 @@ struct Run {
 
 fn are_decoded(bytes: &[u8], files: Files, start: usize, runs: &[u8]) -> bool {
     let mut run = no_run();
-    let mut b: u16 = 0;
-    while b < 256 {
+    for b in 0..=255u8 {
         run = run_after(runs, run);
         let said = lent(runs, run.said);
-        if !is_decoded(said, start, decode_with(bytes, files, start, b as u8)) {
+        if !is_decoded(said, start, decode_with(bytes, files, start, b)) {
             return false;
         }
-        b += 1;
     }
-    if run.left != 0 {
-        return false;
-    }
-    run.next == runs.len()
+    run.left == 0 && run.next == runs.len()
 }
 
 fn no_run() -> Run {
@@ -256,7 +249,7 @@ fn instr_of(bytes: &[u8], files: Files, code: &[u8], start: usize) -> Decoded {
 }
 
 // The check of all five table files.
-fn checked(bytes: &[u8], files: Files) -> Check {
+fn checked(bytes: &[u8], files: Files) -> Result<(), Refusal> {
     let opcodes = file(bytes, files, OPCODES);
     let types = file(bytes, files, TYPES);
     let runtime = file(bytes, files, RUNTIME);
@@ -309,12 +302,10 @@ fn is_instr(said: &[u8], instr: Instr) -> bool {
     if !is_head(said, instr.opcode, instr.scale, instr.end as u64, n) {
         return false;
     }
-    let mut k: u8 = 0;
-    while k < n {
+    for k in 0..n {
         if !is_operand(said, 33 + 24 * k as usize, operand_of(instr, k as usize)) {
             return false;
         }
-        k += 1;
     }
     true
 }

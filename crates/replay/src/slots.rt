@@ -1,7 +1,4 @@
 // Slots: the one that is found at an index, and all records of a store in order.
-use reader::Read;
-use refusal::Check;
-use serializer::SlotAnswer;
 use store::{Inner, Repeat, Slot, SlotValue};
 use vectors::items::{Files, behind, file};
 use vectors::said;
@@ -27,9 +24,9 @@ pub fn slot_at(bytes: &[u8], files: Files, call: &[u8]) -> bool {
         words::u64_at(call, 8),
     );
     match answer {
-        SlotAnswer::At(value) => is_value(said, value_told(value)),
-        SlotAnswer::Nothing => said::is_nothing(said),
-        SlotAnswer::Refused(refusal) => said::is_refused(said, refusal),
+        Ok(Some(value)) => is_value(said, value_told(value)),
+        Ok(None) => said::is_nothing(said),
+        Err(refusal) => said::is_refused(said, refusal),
     }
 }
 
@@ -42,8 +39,8 @@ pub fn slot_records(bytes: &[u8], files: Files, said: &[u8]) -> bool {
     let objects = file(bytes, files, 5);
     let slots = file(bytes, files, 6);
     match store::check_store(objects, slots, file(bytes, files, 7)) {
-        Check::Ok => words::byte_at(said, 0) == 1 && are_records(slots, behind(said, 1)),
-        Check::Refused(refusal) => said::is_refused(said, refusal),
+        Ok(()) => words::byte_at(said, 0) == 1 && are_records(slots, behind(said, 1)),
+        Err(refusal) => said::is_refused(said, refusal),
     }
 }
 
@@ -52,8 +49,7 @@ fn are_records(slots: &[u8], records: &[u8]) -> bool {
     let n = records.len() / 48;
     let mut at: usize = 0;
     let mut from: usize = 0;
-    let mut k: usize = 0;
-    while k < n {
+    for _ in 0..n {
         let step = reader::read_step(slots, at);
         let read = step.read;
         if !is_found(records, from, read) {
@@ -61,7 +57,6 @@ fn are_records(slots: &[u8], records: &[u8]) -> bool {
         }
         at = step.at;
         from = text::saturating_add(from, 48);
-        k += 1;
     }
     is_end(slots, at) && from == records.len()
 }
@@ -70,15 +65,15 @@ fn is_end(slots: &[u8], at: usize) -> bool {
     let step = reader::read_step(slots, at);
     let read = step.read;
     match read {
-        Read::Found(_) => false,
-        Read::End => step.at == at,
+        Some(_) => false,
+        None => step.at == at,
     }
 }
 
-fn is_found(records: &[u8], at: usize, read: Read) -> bool {
+fn is_found(records: &[u8], at: usize, read: Option<Slot>) -> bool {
     match read {
-        Read::Found(slot) => is_record(records, at, slot),
-        Read::End => false,
+        Some(slot) => is_record(records, at, slot),
+        None => false,
     }
 }
 

@@ -1,16 +1,29 @@
 // Whether an answer and the marks behind it are the recorded ones.
+use refusal::Refusal;
 use vectors::items::{Part, behind, lent};
 use vectors::said;
 use walk::Walked;
 
 // An answer for code of n bytes: status 1, 0 or 1 with steps and offset, then a bit for each mark; or a refusal, which keeps all marks.
-pub fn is_walked(said: &[u8], walked: Walked, marks: &[u8], n: usize) -> bool {
+pub fn is_walked(said: &[u8], walked: Result<Walked, Refusal>, marks: &[u8], n: usize) -> bool {
+    is_told(
+        said,
+        walked.map_err(|r| (r.fault.number(), r.place)),
+        marks,
+        n,
+    )
+}
+
+// The same of an answer that C is told: a refusal's number and place.
+pub fn is_told(said: &[u8], walked: Result<Walked, (u8, usize)>, marks: &[u8], n: usize) -> bool {
     match walked {
-        Walked::Closed => is_closed(said) && are_marks(behind(said, 9), marks, n),
-        Walked::Leaves(steps, offset) => {
+        Ok(Walked::Closed) => is_closed(said) && are_marks(behind(said, 9), marks, n),
+        Ok(Walked::Leaves(steps, offset)) => {
             is_left(said, steps as u64, offset as u64) && are_marks(behind(said, 25), marks, n)
         }
-        Walked::Refused(refusal) => said::is_refused(said, refusal) && said::are_kept(marks, 0),
+        Err((number, place)) => {
+            said::is_refused_by(said, number, place) && said::are_kept(marks, 0)
+        }
     }
 }
 
@@ -35,28 +48,19 @@ fn are_marks(bits: &[u8], marks: &[u8], n: usize) -> bool {
 
 // Each byte holds eight marks.
 fn are_bits(bits: &[u8], marks: &[u8]) -> bool {
-    let mut at: usize = 0;
-    let mut i: usize = 0;
-    while i < bits.len() {
-        if !are_8(bits[i], behind(marks, at)) {
-            return false;
-        }
-        at = text::saturating_add(at, 8);
-        i += 1;
-    }
-    true
+    bits.iter()
+        .zip(marks.chunks(8))
+        .all(|(&b, marks)| are_8(b, marks))
 }
 
 // The lowest bit is the first mark.
 fn are_8(bits: u8, marks: &[u8]) -> bool {
     let mut rest = bits;
-    let mut k: usize = 0;
-    while k < 8 {
+    for k in 0..8 {
         if rest % 2 != words::byte_at(marks, k) {
             return false;
         }
         rest = rest / 2;
-        k += 1;
     }
     true
 }

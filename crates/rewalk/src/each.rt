@@ -51,13 +51,11 @@ fn are_prefixes(
     count: u32,
     runs: &[u8],
 ) -> bool {
-    let mut k: u32 = 0;
-    while k < count {
+    for k in 0..count {
         let prefix = std::num::wrapping_add_u64(first, k as u64);
         if !are_walked(bytes, files, object, n, prefix, runs) {
             return false;
         }
-        k += 1;
     }
     true
 }
@@ -65,14 +63,12 @@ fn are_prefixes(
 // One prefix, with each last byte.
 fn are_walked(bytes: &[u8], files: Files, object: u64, n: usize, prefix: u64, runs: &[u8]) -> bool {
     let mut run = no_run();
-    let mut b: u16 = 0;
-    while b < 256 {
+    for b in 0..=255u8 {
         run = run_after(runs, run);
         let said = lent(runs, run.said);
-        if !is_walked(bytes, files, object, n, prefix, b as u8, said) {
+        if !is_walked(bytes, files, object, n, prefix, b, said) {
             return false;
         }
-        b += 1;
     }
     run.left == 0 && run.next == runs.len()
 }

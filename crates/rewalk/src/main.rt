@@ -11,7 +11,7 @@ use tries::{Tries, no_tries, tries_after};
 use vectors::counts::{
     Counts, Outcome, UNKNOWN, counted, judged, no_counts, numbered, with_codes, with_unknown,
 };
-use vectors::items::{Files, Item, Part, What, files_after, item_at, kind_of, lent, no_files};
+use vectors::items::{Files, Item, Items, Part, What, files_after, kind_of, lent, no_files};
 use vectors::lines::{Total, both, print_counts, print_total, print_wrong, read};
 
 fn main(rt: HostRuntime) {
@@ -100,13 +100,10 @@ fn ask_file(rt: &impl Print, bytes: &[u8], shows: bool) -> Seen {
     let mut counts = no_counts();
     let mut tries = no_tries();
     let mut files = no_files();
-    let mut at = 0;
-    while at < bytes.len() {
-        let item = item_at(bytes, at);
+    for item in Items::new(bytes) {
         files = files_after(bytes, files, item);
         counts = counts_after(rt, bytes, files, counts, item, shows);
         tries = tries_after(bytes, files, tries, item);
-        at = item.next;
     }
     Seen { counts, tries }
 }

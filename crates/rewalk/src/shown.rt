@@ -4,7 +4,7 @@ use vectors::items::{Part, lent};
 use walk::Walked;
 
 // A call with a name: the name, the code if it is lent, and the answer. Number 0 is a call of another file.
-pub fn show(rt: &impl Print, number: u64, code: &[u8], walked: Walked) {
+pub fn show(rt: &impl Print, number: u64, code: &[u8], walked: Result<Walked, Refusal>) {
     if print_name(rt, number) {
         print_code(rt, code);
         print_walked(rt, walked);
@@ -27,7 +27,13 @@ fn print_name(rt: &impl Print, number: u64) -> bool {
 }
 
 // One of the three calls of each row with handlers: the code, its records, and the answer.
-pub fn show_with(rt: &impl Print, number: u64, code: &[u8], handlers: &[u8], walked: Walked) {
+pub fn show_with(
+    rt: &impl Print,
+    number: u64,
+    code: &[u8],
+    handlers: &[u8],
+    walked: Result<Walked, Refusal>,
+) {
     if number != 0 && number <= 36 && number % 3 == 2 {
         put(rt, "row");
         print_code(rt, code);
@@ -38,13 +44,8 @@ pub fn show_with(rt: &impl Print, number: u64, code: &[u8], handlers: &[u8], wal
 
 // Start, end and handler of each.
 fn print_records(rt: &impl Print, handlers: &[u8]) {
-    let count = handlers.len() / 12;
-    let mut at: usize = 0;
-    let mut k: usize = 0;
-    while k < count {
-        print_record(rt, lent(handlers, Part { at, len: 12 }));
-        at = text::saturating_add(at, 12);
-        k += 1;
+    for record in handlers.chunks_exact(12) {
+        print_record(rt, record);
     }
 }
 
@@ -84,10 +85,14 @@ fn print_hex(rt: &impl Print, code: &[u8], line: &mut [u8]) {
     let _ = rt.write_all(lent(line, whole));
 }
 
-fn print_walked(rt: &impl Print, walked: Walked) {
+fn print_walked(rt: &impl Print, walked: Result<Walked, Refusal>) {
     let _ = match walked {
-        Walked::Closed => println!(rt; ": closed"),
-        Walked::Leaves(steps, from) => println!(rt; ": leaves steps {steps} from {from}"),
-        Walked::Refused(Refusal { number, place }) => println!(rt; ": refused {number} at {place}"),
+        Ok(Walked::Closed) => println!(rt; ": closed"),
+        Ok(Walked::Leaves(steps, from)) => println!(rt; ": leaves steps {steps} from {from}"),
+        Err(r) => {
+            let number = r.fault.number();
+            let place = r.place;
+            println!(rt; ": refused {number} at {place}")
+        }
     };
 }

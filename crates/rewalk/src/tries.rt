@@ -1,6 +1,7 @@
 // Functions with handler records: how many are closed, and how many handlers are reached. This is told from our answers and marks alone, whatever is recorded: of
 // real functions with V8's own handler tables each is closed, and each handler is reached.
 use crate::walks;
+use refusal::Refusal;
 use vectors::items::{Files, Item, What, file, kind_of};
 use walk::Walked;
 
@@ -54,29 +55,20 @@ fn with_function_in(bytes: &[u8], files: Files, tries: Tries, marks: &mut [u8]) 
     }
 }
 
-fn closed(walked: Walked) -> u64 {
+fn closed(walked: Result<Walked, Refusal>) -> u64 {
     match walked {
-        Walked::Closed => 1,
-        Walked::Leaves(_, _) => 0,
-        Walked::Refused(_) => 0,
+        Ok(Walked::Closed) => 1,
+        Ok(Walked::Leaves(_, _)) => 0,
+        Err(_) => 0,
     }
 }
 
 // How many records have a mark at their handler.
 fn reached(handlers: &[u8], marks: &[u8]) -> u64 {
-    let count = handlers.len() / 12;
-    let mut n: u64 = 0;
-    let mut at: usize = 8;
-    let mut k: usize = 0;
-    while k < count {
-        let to = words::u32_at(handlers, at) as usize;
-        if words::byte_at(marks, to) == 1 {
-            n = std::num::wrapping_add_u64(n, 1);
-        }
-        at = text::saturating_add(at, 12);
-        k += 1;
-    }
-    n
+    handlers
+        .chunks_exact(12)
+        .filter(|&record| words::byte_at(marks, words::u32_at(record, 8) as usize) == 1)
+        .count() as u64
 }
 
 // Where there are any.

@@ -1,7 +1,5 @@
 // The walk check of object 0 and of lent code, without handler records or with those of file 9.
 use crate::{answers, shown};
-use function::PoolObject;
-use header::HeaderAnswer;
 use refusal::Refusal;
 use vectors::items::{Files, behind, file, first};
 use walk::Walked;
@@ -41,7 +39,12 @@ fn of_object_in(
     answers::is_walked(behind(call, 8), walked, marks, code_len(bytes, files))
 }
 
-pub fn walk_object(bytes: &[u8], files: Files, with: bool, marks: &mut [u8]) -> Walked {
+pub fn walk_object(
+    bytes: &[u8],
+    files: Files,
+    with: bool,
+    marks: &mut [u8],
+) -> Result<Walked, Refusal> {
     let opcodes = file(bytes, files, 0);
     let types = file(bytes, files, 1);
     let runtime = file(bytes, files, 2);
@@ -61,7 +64,14 @@ pub fn walk_object(bytes: &[u8], files: Files, with: bool, marks: &mut [u8]) -> 
     )
 }
 
-fn show(rt: &impl Print, bytes: &[u8], files: Files, with: bool, number: u64, walked: Walked) {
+fn show(
+    rt: &impl Print,
+    bytes: &[u8],
+    files: Files,
+    with: bool,
+    number: u64,
+    walked: Result<Walked, Refusal>,
+) {
     let code = file(bytes, files, 8);
     if with {
         shown::show_with(rt, number, code, file(bytes, files, 9), walked);
@@ -80,8 +90,8 @@ fn code_len(bytes: &[u8], files: Files) -> usize {
         0,
     );
     match header {
-        HeaderAnswer::At(h) => h.code_len,
-        HeaderAnswer::Refused(_) => 0,
+        Ok(h) => h.code_len,
+        Err(_) => 0,
     }
 }
 
@@ -101,7 +111,7 @@ fn for_c_in(bytes: &[u8], files: Files, call: &[u8], with: bool, buffer: &mut [u
     let mut place: usize = 7;
     let status = status_of(bytes, files, with, marks, &mut steps, &mut place);
     is_told(status, steps, place)
-        && answers::is_walked(
+        && answers::is_told(
             behind(call, 8),
             told(status, steps, place),
             marks,
@@ -146,14 +156,11 @@ fn is_told(status: u8, steps: usize, place: usize) -> bool {
     }
 }
 
-fn told(status: u8, steps: usize, place: usize) -> Walked {
+fn told(status: u8, steps: usize, place: usize) -> Result<Walked, (u8, usize)> {
     match status {
-        0 => Walked::Closed,
-        254 => Walked::Leaves(steps, place),
-        _ => Walked::Refused(Refusal {
-            number: status,
-            place,
-        }),
+        0 => Ok(Walked::Closed),
+        254 => Ok(Walked::Leaves(steps, place)),
+        _ => Err((status, place)),
     }
 }
 
@@ -213,7 +220,7 @@ fn code_for_c_in(bytes: &[u8], files: Files, call: &[u8], with: bool, buffer: &m
     let status = code_status(bytes, files, with, object, marks, &mut steps, &mut place);
     let code = file(bytes, files, 8);
     is_told(status, steps, place)
-        && answers::is_walked(
+        && answers::is_told(
             behind(call, 16),
             told(status, steps, place),
             marks,
@@ -256,7 +263,13 @@ fn lent_of(object: u64) -> u8 {
     if object == NO_OBJECT { 0 } else { 1 }
 }
 
-pub fn walk_code(bytes: &[u8], files: Files, object: u64, code: &[u8], marks: &mut [u8]) -> Walked {
+pub fn walk_code(
+    bytes: &[u8],
+    files: Files,
+    object: u64,
+    code: &[u8],
+    marks: &mut [u8],
+) -> Result<Walked, Refusal> {
     walk::walk_code(
         marks,
         code,
@@ -276,7 +289,7 @@ fn walk_code_with(
     object: u64,
     code: &[u8],
     marks: &mut [u8],
-) -> Walked {
+) -> Result<Walked, Refusal> {
     walk::walk_code_with(
         marks,
         code,
@@ -291,9 +304,9 @@ fn walk_code_with(
     )
 }
 
-fn pool_object(object: u64) -> PoolObject {
+fn pool_object(object: u64) -> Option<usize> {
     if object == NO_OBJECT {
-        return PoolObject::Nothing;
+        return None;
     }
-    PoolObject::Object(object as usize)
+    Some(object as usize)
 }

@@ -6,6 +6,7 @@ use lib.IntN.{pos, negsuc}
 use lib.ListN.{get_or}
 use Rattle.laws.specs.Scan.{first_from}
 use Rattle.words.specs.Signed.{modulo}
+use Rattle.std.specs.Prelude.{Option, Some, None}
 use Rattle.serializer.specs.declared.Elem.{Elem}
 use Rattle.graph.specs.Graph.{Graph, Step, is_start, Finding, exits, after, level, first_exit, finding, reached, marked, bits, mark_list}
 use Rattle.graph.specs.Graph.Step.{to_offset}
@@ -14,8 +15,8 @@ use Rattle.search.specs.mirror.Kept.{entries_from, target_steps, table_steps, on
 use Rattle.serializer.specs.declared.Elem.TheVariants as elem
 
 -- elements 1 and 3 are small integers, 2 is none
-pool : ℕ → Elem
-pool n = get_or (elem.Nothing ∷ elem.Smi (pos 4) ∷ elem.Nothing ∷ elem.Smi (negsuc 1) ∷ []) n elem.Nothing
+pool : ℕ → Option Elem
+pool n = get_or (None ∷ Some (elem.Smi (pos 4)) ∷ None ∷ Some (elem.Smi (negsuc 1)) ∷ []) n None
 
 -- at 0 and 1 instructions of a byte, at 2 a switch of four bytes with a table of elements 1 to 3, at 6 one that ends the walk
 caught : ℕ → List ℕ → Graph

@@ -10,12 +10,13 @@ use borrow.Author.Tests.{eq-eqb, ne_eqb}
 use lib.Dec.{eqb}
 use lib.ListN.{get_or, length, get_or-eq_default}
 use Rattle.laws.proofs.Tests.{under?}
+use Rattle.std.specs.Prelude.{Option}
 use Rattle.serializer.specs.declared.Elem.{Elem}
 use Rattle.graph.specs.Lists.{any}
 use Rattle.graph.specs.Graph.{Graph, Good, Step, is_start, step_leaves, is_to, exits}
 use Rattle.graph.specs.Graph.Step.{to_offset, no_target}
 use Rattle.graph.proofs.Alike.{Alike, same_start, rising_same, finding_alike, marks_alike}
-use Rattle.search.specs.declared.Searched.{Searched}
+use Rattle.search.specs.declared.Walked.{Walked}
 use Rattle.search.specs.mirror.Kept.{size_of, here_of, count_of, entries_from, on_steps, catch_steps, kept_steps, word_of, places, kept_graph, off_heads, IsFound}
 use Rattle.search.proofs.Laws.{any_append, any_same, elem-places, kept_good, leaves_is, inside, on_yes, on_no, target_yes, target_no, table_yes, table_no}
 
@@ -63,7 +64,7 @@ module _ (heads : List ℕ) (small : length heads ≤ 4294967295) where
   }
 
 -- ---- the steps of each form of head
-module _ (el : ℕ → Elem) (words : List ℕ) (o size : ℕ) (small : size < 256) where
+module _ (el : ℕ → Option Elem) (words : List ℕ) (o size : ℕ) (small : size < 256) where
   -- a head of form f that goes on
   on_end : (h f : ℕ) → h ≡ size + 256 * f → h / 256 % 2 ≡ 1 → on_steps o h ≡ to_offset (o + size) ∷ []
   on_end h f e i = on_yes o h i ∙ ap (λ (x : ℕ). to_offset (o + x) ∷ []) (let z : h % 256 ≡ size = omega (arith, e, small) in z)
@@ -99,7 +100,7 @@ module _ (el : ℕ → Elem) (words : List ℕ) (o size : ℕ) (small : size < 2
         size_is = omega (arith, small)
 
 -- ---- the graph that is kept
-module _ (el : ℕ → Elem) (heads words catches : List ℕ) (g : Graph) (G : Good g) where
+module _ (el : ℕ → Option Elem) (heads words catches : List ℕ) (g : Graph) (G : Good g) where
   -- the heads stand just at the starts
   pub kept_starts : ((t : ℕ) → is_start g t ≡ not (eqb (get_or heads t 0) 0)) → g.starts ≡ places 0 heads
   unfolding is_start kept_graph
@@ -123,5 +124,5 @@ module _ (el : ℕ → Elem) (heads words catches : List ℕ) (g : Graph) (G : G
     }
 
     -- so what is found of the kept graph is found of it
-    pub kept_found : (n : ℕ) (r : Searched) (M : List ℕ) → IsFound (kept_graph el heads words catches) n r M → IsFound g n r M
+    pub kept_found : (n : ℕ) (r : Walked) (M : List ℕ) → IsFound (kept_graph el heads words catches) n r M → IsFound g n r M
     kept_found n r M f = (f.0 ∙ sym (finding_alike G kept_alike), f.1 ∙ sym (marks_alike G kept_alike n))

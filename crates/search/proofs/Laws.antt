@@ -9,6 +9,7 @@ use borrow.Author.Tests.{eqb-true, eq-eqb, ne_eqb, not-false}
 use lib.Dec.{eqb}
 use lib.ListN.{get_or, length, replicate, get_or-eq_default}
 use Rattle.laws.proofs.Tests.{by_test, either, clash, or_either, under?}
+use Rattle.std.specs.Prelude.{Option}
 use Rattle.serializer.specs.declared.Elem.{Elem}
 use Rattle.graph.specs.Lists.{any, elem}
 use Rattle.graph.specs.Graph.{Graph, Good, Rising, Step, is_start, step_leaves, is_to, Succ, Reach, Leaving, Answer, exits}
@@ -21,7 +22,7 @@ use Rattle.graph.proofs.Lists.{or_left, or_right, any_among, among_any, none_amo
 use Rattle.graph.proofs.Queues.{zero_at, grown_none, grown_join, grown_same}
 use Rattle.graph.proofs.Answers.{found}
 use Rattle.targets.specs.Targets.{smi_of, target_from}
-use Rattle.search.specs.declared.Searched.{Searched}
+use Rattle.search.specs.declared.Walked.{Walked}
 use Rattle.search.specs.mirror.Kept.{size_of, here_of, count_of, shown, entries_from, target_steps, table_steps, on_steps, catch_steps, places, kept_graph, off_heads, Goes, Below, finding_as, IsFound}
 
 -- ---- tests on lists
@@ -81,7 +82,7 @@ elem-places S t = go (headless S t) refl (either (elem t (places 0 S)))
     go true h (inr x) = x
     go false h x = let z : 0 + t ≡ t = omega arith in subst (λ (y : ℕ). elem y (places 0 S) ≡ true) z (places_yes 0 t S h)
 
-module _ (el : ℕ → Elem) (heads words catches : List ℕ) where
+module _ (el : ℕ → Option Elem) (heads words catches : List ℕ) where
   abbrev g : Graph
   g = kept_graph el heads words catches
 
@@ -251,7 +252,7 @@ module _ (o h : ℕ) where
     unfolding target_steps
     target_no e = rw (ne_eqb _ 1 e)
 
-    module _ (el : ℕ → Elem) where
+    module _ (el : ℕ → Option Elem) where
       pub table_yes : h / 1024 % 2 ≡ 1 → table_steps el words o h ≡ entries_from el (here_of o h) (get_or words o 0) (count_of h)
       unfolding table_steps
       table_yes e = rw (eq-eqb _ 1 e)
@@ -261,7 +262,7 @@ module _ (o h : ℕ) where
       table_no e = rw (ne_eqb _ 1 e)
 
 -- ---- the entries of a table, one by one
-module _ (el : ℕ → Elem) (at : ℕ) where
+module _ (el : ℕ → Option Elem) (at : ℕ) where
   abbrev pub entry : ℕ → List Step
   entry n = shown (target_from at (smi_of (el n)))
 
@@ -320,7 +321,7 @@ module _ (el : ℕ → Elem) (at : ℕ) where
   entry_below n k m b l h t x = h t (entries_one (is_to t) n k m l x)
 
 -- the same entries, by numbers that were read
-pub entries_read : (el : ℕ → Elem) {at at' n n' k k' : ℕ} → at ≡ at' → n ≡ n' → k ≡ k' → entries_from el at n k ≡ entries_from el at' n' k'
+pub entries_read : (el : ℕ → Option Elem) {at at' n n' k k' : ℕ} → at ≡ at' → n ≡ n' → k ≡ k' → entries_from el at n k ≡ entries_from el at' n' k'
 entries_read el a b c = cc
 
 pub grown_read : {q M' q' : List ℕ} {k k' : ℕ} {l l' : List Step} → l ≡ l' → Grown q k M' q' k' (Goes l) → Grown q k M' q' k' (Goes l')
@@ -330,13 +331,13 @@ pub below_read : {l l' : List Step} {n n' : ℕ} → l ≡ l' → n ≡ n' → B
 below_read {l' = l'} {n = n} e i b t x = omega (arith, i, b t (ap (any (is_to t)) e ∙ x))
 
 -- ---- the answer
-module _ (el : ℕ → Elem) (heads words catches : List ℕ) where
+module _ (el : ℕ → Option Elem) (heads words catches : List ℕ) where
   -- where no instruction starts at 0, nothing is reached
   not-reached : {m p : ℕ} → get_or heads 0 0 ≡ 0 → Reach (kept_graph el heads words catches) m p → ⊥
   not-reached e (here z) = clash (sym (start_is el heads words catches 0) ∙ z) (ap not (eq-eqb (get_or heads 0 0) 0 e))
   not-reached e (next r s) = not-reached e r
 
-  pub answered : (n : ℕ) (M : List ℕ) (r : Searched) → length M ≡ n → Answer (kept_graph el heads words catches) n M (finding_as r) → IsFound (kept_graph el heads words catches) n r M
+  pub answered : (n : ℕ) (M : List ℕ) (r : Walked) → length M ≡ n → Answer (kept_graph el heads words catches) n M (finding_as r) → IsFound (kept_graph el heads words catches) n r M
   answered n M r len a = found (kept_good el heads words catches) len a
 
   pub none_answered : (n : ℕ) (M : List ℕ) → M ≡ replicate n 0 → get_or heads 0 0 ≡ 0 → Answer (kept_graph el heads words catches) n M closed

@@ -9,14 +9,15 @@ ghost use Rattle.graph.specs.mirror.Queue.{Held, Grown, SuccIn, Quiet, Lowest, l
 ghost use Rattle.targets.specs.Targets.{smi_of, target_from};
 ghost use Rattle.targets.specs.mirror.Search.{pool_searched, PoolBlocked};
 ghost use Rattle.search.specs.mirror.Kept.{size_of, here_of, count_of, shown, entries_from, target_steps, table_steps, on_steps, catch_steps, graph_by};
-ghost use Rattle.search.specs.mirror.Kept.{off_heads, Goes, Below, found_as, finding_as, Fits, IsFound};
+ghost use Rattle.search.specs.mirror.Kept.{off_heads, Goes, Below, finding_as, Fits, IsFound};
 
 use serializer::Elem;
-use targets::{Pool, Target};
+use targets::PoolSlots;
 
-// Closed, or the steps of the shortest walk that leaves and the offset it leaves from.
+// Closed, or the steps of the shortest walk that leaves and the offset it leaves from. No Option: "closed" is 01's answer, and none would say that there
+// is none.
 #[derive(Clone, Copy)]
-pub enum Searched {
+pub enum Walked {
     Closed,
     Leaves(usize, usize),
 }
@@ -25,14 +26,7 @@ pub enum Searched {
 #[derive(Clone, Copy)]
 pub struct Elements {
     pub ts: u8,
-    pub pool: Pool,
-}
-
-// An offset, where one was found.
-#[derive(Clone, Copy)]
-enum Found {
-    At(usize),
-    Nothing,
+    pub pool: Option<PoolSlots>,
 }
 
 // The walks of the graph that is kept in heads and words. Where the room does not fit, closed, and nothing is written.
@@ -45,24 +39,17 @@ pub fn search(
     catches: &[u32],
     marks: &mut [u8],
     queue: &mut [u16],
-) -> Searched
+) -> Walked
     ensures { Fits heads.now marks.old queue.old
         → IsFound (graph_by slots.now payload.now e.ts e.pool
         heads.now words.now catches.now)
         (length heads.now) result marks.new }
 {
     let n = heads.len();
-    if 65536 < n {
-        return Searched::Closed;
+    if 65536 < n || marks.len() != n || queue.len() < n {
+        return Walked::Closed;
     }
-    if marks.len() != n {
-        return Searched::Closed;
-    }
-    if queue.len() < n {
-        return Searched::Closed;
-    }
-    let pool = e.pool;
-    let blocks = targets::pool_blocks(slots, e.ts, pool);
+    let blocks = targets::pool_blocks(slots, e.ts, e.pool);
     search_in(
         slots, payload, &blocks, e, heads, words, catches, marks, queue,
     )
@@ -79,16 +66,16 @@ fn search_in(
     catches: &[u32],
     marks: &mut [u8],
     queue: &mut [u16],
-) -> Searched
+) -> Walked
     requires { Fits heads.now marks.old queue.old
         × PoolBlocked slots.now e.ts e.pool blocks.now }
     ensures { IsFound (graph_by slots.now payload.now e.ts e.pool
         heads.now words.now catches.now)
         (length heads.now) result marks.new }
 {
-    clear(marks);
-    if head_at(heads, 0) == 0 {
-        return Searched::Closed;
+    marks.fill(0);
+    if number_at(heads, 0) == 0 {
+        return Walked::Closed;
     }
     levels(
         slots, payload, blocks, e, heads, words, catches, marks, queue,
@@ -106,7 +93,7 @@ fn levels(
     catches: &[u32],
     marks: &mut [u8],
     queue: &mut [u16],
-) -> Searched
+) -> Walked
     requires { Held marks.old queue.old 0 × (length marks.old ≡ length heads.now)
         × (is_start (graph_by slots.now payload.now e.ts e.pool heads.now words.now catches.now) 0 ≡ true)
         × PoolBlocked slots.now e.ts e.pool blocks.now }
@@ -117,13 +104,14 @@ fn levels(
     let mut lo = 0;
     let mut hi = push(marks, queue, 0, 0);
     let mut d = 0;
+    // No range to go through: how many levels there are is known behind the last one only.
     while lo < hi {
         let f = lowest(
             slots, payload, blocks, e, heads, words, catches, queue, lo, hi,
         );
-        if let Found::At(o) = f {
+        if let Some(o) = f {
             let steps = d + 1;
-            return Searched::Leaves(steps, o);
+            return Walked::Leaves(steps, o);
         }
         let end = push_level(
             slots, payload, blocks, e, heads, words, catches, marks, queue, lo, hi,
@@ -132,7 +120,7 @@ fn levels(
         hi = end;
         d += 1;
     }
-    Searched::Closed
+    Walked::Closed
 }
 
 // The lowest of the queue's entries lo to hi that exits.
@@ -147,18 +135,16 @@ fn lowest(
     queue: &[u16],
     lo: usize,
     hi: usize,
-) -> Found
+) -> Option<usize>
     requires { (lo ≤ hi) × (hi ≤ length queue.now)
         × PoolBlocked slots.now e.ts e.pool blocks.now }
     ensures { Lowest (graph_by slots.now payload.now e.ts e.pool
         heads.now words.now catches.now)
-        queue.now lo hi (found_as result) }
+        queue.now lo hi result }
 {
-    let mut i = lo;
-    let mut f = Found::Nothing;
-    while i < hi {
+    let mut f = None;
+    for i in lo..hi {
         let o = queue[i];
-        i += 1;
         if exits(slots, payload, blocks, e, heads, words, catches, o) {
             f = lower(f, o);
         }
@@ -167,17 +153,12 @@ fn lowest(
 }
 
 // The lower of what was found and o.
-fn lower(f: Found, o: u16) -> Found
-    ensures { found_as result ≡ lower_of (found_as f) o }
+fn lower(f: Option<usize>, o: u16) -> Option<usize>
+    ensures { result ≡ lower_of f o }
 {
     match f {
-        Found::At(p) => {
-            if p <= o as usize {
-                return Found::At(p);
-            }
-            Found::At(o as usize)
-        }
-        Found::Nothing => Found::At(o as usize),
+        Some(p) => Some(p.min(o as usize)),
+        None => Some(o as usize),
     }
 }
 
@@ -204,13 +185,11 @@ fn push_level(
         queue.old lo hi) }
 {
     let mut end = hi;
-    let mut i = lo;
-    while i < hi {
+    for i in lo..hi {
         let o = queue[i];
         end = push_steps(
             slots, payload, blocks, e, heads, words, catches, o, marks, queue, end,
         );
-        i += 1;
     }
     end
 }
@@ -230,52 +209,33 @@ fn exits(
     ensures { result ≡ exits (graph_by slots.now payload.now e.ts e.pool
         heads.now words.now catches.now) o }
 {
-    let h = head_at(heads, o as usize);
-    if on_leaves(heads, o, h) {
-        return true;
-    }
-    if target_leaves(heads, words, o, h) {
-        return true;
-    }
-    if catch_leaves(heads, catches, o) {
-        return true;
-    }
-    if h / 1024 % 2 == 1 {
-        return table_leaves(slots, payload, blocks, e, heads, words, o, h);
-    }
-    false
+    let h = number_at(heads, o as usize);
+    on_leaves(heads, o, h)
+        || target_leaves(heads, words, o, h)
+        || catch_leaves(heads, catches, o)
+        || h / 1024 % 2 == 1 && table_leaves(slots, payload, blocks, e, heads, words, o, h)
 }
 
 // Whether the instruction at o with head h goes on to a place where none starts.
 fn on_leaves(heads: &[u32], o: u16, h: u32) -> bool
     ensures { result ≡ any (off_heads heads.now) (on_steps o h) }
 {
-    if h / 256 % 2 == 1 {
-        return head_at(heads, end_of(o, h)) == 0;
-    }
-    false
+    h / 256 % 2 == 1 && number_at(heads, end_of(o, h)) == 0
 }
 
 // Whether it has a target where none starts.
 fn target_leaves(heads: &[u32], words: &[u32], o: u16, h: u32) -> bool
     ensures { result ≡ any (off_heads heads.now) (target_steps words.now o h) }
 {
-    if h / 512 % 2 == 1 {
-        let t = word_at(words, o as usize);
-        return head_at(heads, t as usize) == 0;
-    }
-    false
+    h / 512 % 2 == 1 && number_at(heads, number_at(words, o as usize) as usize) == 0
 }
 
 // Whether it has a handler where none starts.
 fn catch_leaves(heads: &[u32], catches: &[u32], o: u16) -> bool
     ensures { result ≡ any (off_heads heads.now) (catch_steps catches.now o) }
 {
-    let c = word_at(catches, o as usize);
-    if c == 0 {
-        return false;
-    }
-    head_at(heads, (c - 1) as usize) == 0
+    let c = number_at(catches, o as usize);
+    c != 0 && number_at(heads, (c - 1) as usize) == 0
 }
 
 // Whether some entry of its table goes where none starts.
@@ -295,27 +255,22 @@ fn table_leaves(
         (get_or words.now o 0) (count_of h)) }
 {
     let at = here_of(o, h);
-    let first = word_at(words, o as usize);
+    let first = number_at(words, o as usize);
     let count = h / 4096;
-    let mut k: u32 = 0;
-    while k < count {
+    for k in 0..count {
         let target = entry_target(slots, payload, blocks, e, at, first as u64 + k as u64);
         if off_target(heads, target) {
             return true;
         }
-        k += 1;
     }
     false
 }
 
 // Whether an entry is shown and goes where none starts.
-fn off_target(heads: &[u32], target: Target) -> bool
+fn off_target(heads: &[u32], target: Option<u64>) -> bool
     ensures { result ≡ any (off_heads heads.now) (shown target) }
 {
-    match target {
-        Target::At(t) => head_at(heads, t as usize) == 0,
-        Target::Nothing => false,
-    }
+    target.is_some_and(|t| number_at(heads, t as usize) == 0)
 }
 
 // Pushes where the instruction at o goes, of which no step leaves.
@@ -339,7 +294,7 @@ fn push_steps(
         (Succ (graph_by slots.now payload.now e.ts e.pool
         heads.now words.now catches.now) o) }
 {
-    let h = head_at(heads, o as usize);
+    let h = number_at(heads, o as usize);
     let a = push_on(o, h, marks, queue, tail);
     let t = push_target(words, o, h, marks, queue, a);
     let b = push_catch(catches, o, marks, queue, t);
@@ -373,7 +328,7 @@ fn push_target(
     ensures { Grown queue.old tail marks.new queue.new result (Goes (target_steps words.now o h)) }
 {
     if h / 512 % 2 == 1 {
-        let t = word_at(words, o as usize);
+        let t = number_at(words, o as usize);
         return push(marks, queue, tail, t as usize);
     }
     tail
@@ -384,7 +339,7 @@ fn push_catch(catches: &[u32], o: u16, marks: &mut [u8], queue: &mut [u16], tail
     requires { Held marks.old queue.old tail × Below (catch_steps catches.now o) (length marks.old) }
     ensures { Grown queue.old tail marks.new queue.new result (Goes (catch_steps catches.now o)) }
 {
-    let c = word_at(catches, o as usize);
+    let c = number_at(catches, o as usize);
     if c == 0 {
         return tail;
     }
@@ -412,26 +367,24 @@ fn push_table(
         (get_or words.now o 0) (count_of h))) }
 {
     let at = here_of(o, h);
-    let first = word_at(words, o as usize);
+    let first = number_at(words, o as usize);
     let count = h / 4096;
     let mut end = tail;
-    let mut k: u32 = 0;
-    while k < count {
+    for k in 0..count {
         let target = entry_target(slots, payload, blocks, e, at, first as u64 + k as u64);
         end = push_entry(target, marks, queue, end);
-        k += 1;
     }
     end
 }
 
 // Pushes where an entry goes, if it is shown.
-fn push_entry(target: Target, marks: &mut [u8], queue: &mut [u16], tail: usize) -> usize
+fn push_entry(target: Option<u64>, marks: &mut [u8], queue: &mut [u16], tail: usize) -> usize
     requires { Held marks.old queue.old tail × Below (shown target) (length marks.old) }
     ensures { Grown queue.old tail marks.new queue.new result (Goes (shown target)) }
 {
     match target {
-        Target::At(t) => push(marks, queue, tail, t as usize),
-        Target::Nothing => tail,
+        Some(t) => push(marks, queue, tail, t as usize),
+        None => tail,
     }
 }
 
@@ -456,15 +409,14 @@ fn entry_target(
     e: Elements,
     at: u64,
     n: u64,
-) -> Target
+) -> Option<u64>
     requires { PoolBlocked slots.now e.ts e.pool blocks.now }
     ensures { result ≡ target_from at (smi_of (pool_searched slots.now payload.now e.ts e.pool n)) }
 {
-    let pool = e.pool;
-    let Elem::Smi(v) = targets::pool_elem_in(slots, payload, blocks, e.ts, pool, n) else {
-        return Target::Nothing;
+    let Some(Elem::Smi(v)) = targets::pool_elem_in(slots, payload, blocks, e.ts, e.pool, n) else {
+        return None;
     };
-    Target::At(words::target_after(at, v))
+    Some(words::target_after(at, v))
 }
 
 // Where the instruction at o with head h ends.
@@ -481,26 +433,9 @@ fn here_of(o: u16, h: u32) -> u64
     o as u64 + (h / 2048 % 2) as u64
 }
 
-// The head at place i; 0 past the end.
-fn head_at(heads: &[u32], i: usize) -> u32
-    ensures { result ≡ get_or heads.now i 0 }
+// The number at place i, a head or a word; 0 past the end.
+fn number_at(numbers: &[u32], i: usize) -> u32
+    ensures { result ≡ get_or numbers.now i 0 }
 {
-    if i < heads.len() { heads[i] } else { 0 }
-}
-
-// The word at place i; 0 past the end.
-fn word_at(words: &[u32], i: usize) -> u32
-    ensures { result ≡ get_or words.now i 0 }
-{
-    if i < words.len() { words[i] } else { 0 }
-}
-
-fn clear(marks: &mut [u8])
-    ensures { marks.new ≡ replicate (length marks.old) 0 }
-{
-    let mut i = 0;
-    while i < marks.len() {
-        marks[i] = 0;
-        i += 1;
-    }
+    numbers.get(i).copied().unwrap_or(0)
 }

@@ -8,7 +8,7 @@ use borrow.Author.Tests.{leb-true}
 use lib.Dec.{leb}
 use lib.ListN.{length}
 use Rattle.laws.proofs.Tests.{and_left, and_right}
-use Rattle.refusal.specs.declared.Check.TheVariants.{Ok}
+use Rattle.std.specs.Prelude.{Option, Some, None, Ok}
 use Rattle.store.specs.Records.{slot_of, object_of}
 use Rattle.store.specs.declared.Run.{Run}
 use Rattle.store.specs.declared.Slot.{Slot}
@@ -17,13 +17,11 @@ use Rattle.store.proofs.Good.{good_slot, good_run}
 use Rattle.serializer.specs.Down.{down, stops, walk_down}
 use Rattle.serializer.specs.Field.{raw_run, raw_value, raw_or, raw_look, raw_sought, raw_at}
 use Rattle.serializer.specs.Calls.{check_at}
-use Rattle.serializer.specs.declared.RawAt.{RawAt}
 use Rattle.serializer.proofs.Checked.{check_store_lem, check_there}
 use Rattle.store.specs.declared.SlotValue.TheVariants as value
-use Rattle.serializer.specs.declared.RawAt.TheVariants as raw_case
 
 -- two answers are not one
-not_found : {P : Type 0} {a : ℕ} → raw_case.Nothing ≡ raw_case.At a → P
+not_found : {P : Type 0} {a : ℕ} → None ≡ Some a → P
 not_found h = let z : ◌≡◌ {A = ℕ} 0 1 = cc in absurd (omega arith)
 
 -- a run that holds the field
@@ -33,10 +31,10 @@ record Holds (v : SlotValue) (a len : ℕ) : Type 0 where
   fits : a + len ≤ run.off + run.len
 
 module _ (ts off len a : ℕ) where
-  in_run : (index : ℕ) (run : Run) → raw_run run index ts off len ≡ raw_case.At a → a + len ≤ run.off + run.len
+  in_run : (index : ℕ) (run : Run) → raw_run run index ts off len ≡ Some a → a + len ≤ run.off + run.len
   in_run index run h = go (leb (index * ts) off && leb (off + len) (index * ts + run.len)) refl h
     where
-      go : (t : Bool) → (leb (index * ts) off && leb (off + len) (index * ts + run.len)) ≡ t → cond t (raw_case.At (run.off + (off - index * ts))) raw_case.Nothing ≡ raw_case.At a → a + len ≤ run.off + run.len
+      go : (t : Bool) → (leb (index * ts) off && leb (off + len) (index * ts + run.len)) ≡ t → cond t (Some (run.off + (off - index * ts))) None ≡ Some a → a + len ≤ run.off + run.len
       go true e f =
           let p = leb-true (index * ts) off (and_left (leb (index * ts) off) (leb (off + len) (index * ts + run.len)) e) in
           let q = leb-true (off + len) (index * ts + run.len) (and_right (leb (index * ts) off) (leb (off + len) (index * ts + run.len)) e) in
@@ -44,7 +42,7 @@ module _ (ts off len a : ℕ) where
           omega arith
       go false e f = not_found f
 
-  in_value : (index : ℕ) (v : SlotValue) → raw_value v index ts off len ≡ raw_case.At a → Holds v a len
+  in_value : (index : ℕ) (v : SlotValue) → raw_value v index ts off len ≡ Some a → Holds v a len
   in_value index value.Other h = not_found h
   in_value index (value.Object n) h = not_found h
   in_value index value.Root h = not_found h
@@ -53,7 +51,7 @@ module _ (ts off len a : ℕ) where
   in_value index (value.Repeat r) h = not_found h
 
   -- a field that is found is in a run of one of the k slots
-  in_slots : (s : List ℕ) (first want k : ℕ) → walk_down (raw_look ts off len) raw_case.Nothing s first want k ≡ raw_case.At a → (i : ℕ) × (i < k) × Holds (slot_of s (first + i)).value a len
+  in_slots : (s : List ℕ) (first want k : ℕ) → walk_down (raw_look ts off len) None s first want k ≡ Some a → (i : ℕ) × (i < k) × Holds (slot_of s (first + i)).value a len
   unfolding down
   in_slots s first want zero h = not_found h
   in_slots s first want (suc k) h = go (raw_value slot.value slot.index ts off len) refl (stops slot.index want) h (in_slots s first want k)
@@ -61,15 +59,15 @@ module _ (ts off len a : ℕ) where
       slot : Slot
       slot = slot_of s (first + k)
 
-      go : (x : RawAt) → raw_value slot.value slot.index ts off len ≡ x → (t : Bool)
-          → raw_or x (cond t raw_case.Nothing (walk_down (raw_look ts off len) raw_case.Nothing s first want k)) ≡ raw_case.At a
-          → (walk_down (raw_look ts off len) raw_case.Nothing s first want k ≡ raw_case.At a → (i : ℕ) × (i < k) × Holds (slot_of s (first + i)).value a len)
+      go : (x : Option ℕ) → raw_value slot.value slot.index ts off len ≡ x → (t : Bool)
+          → raw_or x (cond t None (walk_down (raw_look ts off len) None s first want k)) ≡ Some a
+          → (walk_down (raw_look ts off len) None s first want k ≡ Some a → (i : ℕ) × (i < k) × Holds (slot_of s (first + i)).value a len)
           → (i : ℕ) × (i < suc k) × Holds (slot_of s (first + i)).value a len
-      go (raw_case.At b) e t f rest = (k, omega arith, in_value slot.index slot.value (e ∙ f))
-      go raw_case.Nothing e true f rest = not_found f
-      go raw_case.Nothing e false f rest = let r = rest f in (r.0, omega (arith, r.1), r.2)
+      go (Some b) e t f rest = (k, omega arith, in_value slot.index slot.value (e ∙ f))
+      go None e true f rest = not_found f
+      go None e false f rest = let r = rest f in (r.0, omega (arith, r.1), r.2)
 
-pub raw_inside : (o s p : List ℕ) (k ts off len : ℕ) {a : ℕ} → check_at o s p k ≡ Ok → raw_at s (object_of o k).first (object_of o k).count ts off len ≡ raw_case.At a → a + len ≤ length p
+pub raw_inside : (o s p : List ℕ) (k ts off len : ℕ) {a : ℕ} → check_at o s p k ≡ Ok tt → raw_at s (object_of o k).first (object_of o k).count ts off len ≡ Some a → a + len ≤ length p
 unfolding raw_at
 raw_inside o s p k ts off len {a} ok h = go (raw_sought ts off len) h
   where
@@ -79,7 +77,7 @@ raw_inside o s p k ts off len {a} ok h = go (raw_sought ts off len) h
     count : ℕ
     count = (object_of o k).count
 
-    go : (t : Bool) → cond t (walk_down (raw_look ts off len) raw_case.Nothing s first (off / ts) count) raw_case.Nothing ≡ raw_case.At a → a + len ≤ length p
+    go : (t : Bool) → cond t (walk_down (raw_look ts off len) None s first (off / ts) count) None ≡ Some a → a + len ≤ length p
     go true f =
         let r = in_slots ts off len a s first (off / ts) count f in
         let good = good_run o s p (check_store_lem o s p k ok) (first + r.0) (good_slot o s p (check_store_lem o s p k ok) k r.0 (check_there o s p k ok) r.1) r.2.is in

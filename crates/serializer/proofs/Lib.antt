@@ -1,4 +1,3 @@
-pub mod Parts
 pub mod Bound
 pub mod Down
 pub mod Windows

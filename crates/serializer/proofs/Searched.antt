@@ -23,18 +23,14 @@ use Rattle.serializer.specs.Slots.{slot_at}
 use Rattle.serializer.specs.Field.{raw_look, raw_sought, raw_at}
 use Rattle.serializer.specs.Element.{elem_look, elem_sought, elem_at}
 use Rattle.serializer.specs.Length.{array_len}
-use Rattle.serializer.specs.declared.SlotAt.{SlotAt}
-use Rattle.serializer.specs.declared.RawAt.{RawAt}
+use Rattle.std.specs.Prelude.{Option, Some, None}
 use Rattle.serializer.specs.declared.Elem.{Elem}
 use Rattle.serializer.proofs.Down.{down_skip, above_next}
 use Rattle.serializer.proofs.Point.{Point, point}
 use Rattle.store.specs.declared.SlotValue.TheVariants as value
-use Rattle.serializer.specs.declared.SlotAt.TheVariants as slot_case
-use Rattle.serializer.specs.declared.RawAt.TheVariants as raw_case
-use Rattle.serializer.specs.declared.Elem.TheVariants as elem
 
 -- a slot above the one sought holds no part of a field, and is no element
-raw_over : (slot : Slot) (ts off len : ℕ) → 0 < ts → off / ts < slot.index → (below : RawAt) → raw_look ts off len slot below ≡ below
+raw_over : (slot : Slot) (ts off len : ℕ) → 0 < ts → off / ts < slot.index → (below : Option ℕ) → raw_look ts off len slot below ≡ below
 raw_over slot ts off len pos h below = go slot.value
   where
     go : (v : SlotValue) → raw_look ts off len (record { index = slot.index; value = v }) below ≡ below
@@ -45,7 +41,7 @@ raw_over slot ts off len pos h below = go slot.value
     go (value.Raw run) = rw (lt-leb (slot.index * ts) off ((div-lt_iff_lt-mul pos).0 h))
     go (value.Repeat r) = refl
 
-elem_over : (payload : List ℕ) (slot : Slot) (ts want : ℕ) → 0 < ts → want < slot.index → (below : Elem) → elem_look payload ts want slot below ≡ below
+elem_over : (payload : List ℕ) (slot : Slot) (ts want : ℕ) → 0 < ts → want < slot.index → (below : Option Elem) → elem_look payload ts want slot below ≡ below
 elem_over payload slot ts want pos h below = go slot.value
   where
     other : eqb slot.index want ≡ false
@@ -75,9 +71,9 @@ module _ (s : List ℕ) (first count : ℕ) (ordered : Ordered s first count) wh
   raw_searched_lem ts off len = go (raw_sought ts off len) refl
     where
       go : (t : Bool) → raw_sought ts off len ≡ t
-          → cond t (walk_down (raw_look ts off len) raw_case.Nothing s first (off / ts) (point_at s first count (off / ts + 1))) raw_case.Nothing
-          ≡ cond t (walk_down (raw_look ts off len) raw_case.Nothing s first (off / ts) count) raw_case.Nothing
-      go true e = walk_searched_lem (raw_look ts off len) raw_case.Nothing (off / ts) (λ slot. raw_over slot ts off len (ltb-true 0 ts (and_left (ltb 0 ts) (leb off 4294967295 && leb len 4294967295) e)))
+          → cond t (walk_down (raw_look ts off len) None s first (off / ts) (point_at s first count (off / ts + 1))) None
+          ≡ cond t (walk_down (raw_look ts off len) None s first (off / ts) count) None
+      go true e = walk_searched_lem (raw_look ts off len) None (off / ts) (λ slot. raw_over slot ts off len (ltb-true 0 ts (and_left (ltb 0 ts) (leb off 4294967295 && leb len 4294967295) e)))
       go false e = refl
 
   pub elem_searched_lem : (payload : List ℕ) (ts n : ℕ) → elem_searched s payload first count ts n ≡ elem_at s payload first count ts n
@@ -85,9 +81,9 @@ module _ (s : List ℕ) (first count : ℕ) (ordered : Ordered s first count) wh
   elem_searched_lem payload ts n = go (elem_sought ts n) refl
     where
       go : (t : Bool) → elem_sought ts n ≡ t
-          → cond t (walk_down (elem_look payload ts (n + 2)) elem.Nothing s first (n + 2) (point_at s first count (n + 2 + 1))) elem.Nothing
-          ≡ cond t (walk_down (elem_look payload ts (n + 2)) elem.Nothing s first (n + 2) count) elem.Nothing
-      go true e = walk_searched_lem (elem_look payload ts (n + 2)) elem.Nothing (n + 2) (λ slot. elem_over payload slot ts (n + 2) (ltb-true 0 ts (and_left (ltb 0 ts) (leb n 4294967295) e)))
+          → cond t (walk_down (elem_look payload ts (n + 2)) None s first (n + 2) (point_at s first count (n + 2 + 1))) None
+          ≡ cond t (walk_down (elem_look payload ts (n + 2)) None s first (n + 2) count) None
+      go true e = walk_searched_lem (elem_look payload ts (n + 2)) None (n + 2) (λ slot. elem_over payload slot ts (n + 2) (ltb-true 0 ts (and_left (ltb 0 ts) (leb n 4294967295) e)))
       go false e = refl
 
   pub slot_searched_lem : (index : ℕ) → slot_searched s first count index ≡ slot_at s first count index
@@ -106,8 +102,8 @@ module _ (s : List ℕ) (first count : ℕ) (ordered : Ordered s first count) wh
       p : Point s first count index r
       p = point s first count ordered index
 
-      found : SlotAt
-      found = cond (ltb i count) (slot_case.At (slot_of s (first + i)).value) slot_case.Nothing
+      found : Option SlotValue
+      found = cond (ltb i count) (Some (slot_of s (first + i)).value) None
 
       -- the first slot with the index is the one at the point
       here : i < count → i ≡ r

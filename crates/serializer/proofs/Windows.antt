@@ -1,5 +1,5 @@
 -- Windows of blocks of slots: what a walk passes changes nothing, and how a table of them is made. Assumes nothing.
-use Prim.Native.Nat.{ℕ, zero, suc, ◌+◌, ◌-◌, ◌*◌, ◌/◌, ◌<◌, ◌≤◌, min, max}
+use Prim.Native.Nat.{ℕ, zero, suc, ◌+◌, ◌-◌, ◌*◌, ◌/◌, ◌<◌, ◌≤◌, min}
 use mathlib.Core.Path.{◌≡◌, refl, ap}
 use mathlib.Core.Bool.{false}
 use mathlib.Core.Logic.{⊎_elim}
@@ -17,10 +17,10 @@ use Rattle.store.specs.declared.SlotValue.{SlotValue}
 use Rattle.serializer.specs.Down.{stopping, walk_down}
 use Rattle.serializer.specs.Element.{elem_look}
 use Rattle.serializer.specs.mirror.Blocks.{held, Passed, WindowOf, InWindow, Blocked}
+use Rattle.std.specs.Prelude.{Option, None}
 use Rattle.serializer.specs.declared.Elem.{Elem}
 use Rattle.serializer.proofs.Down.{down_skip}
 use Rattle.store.specs.declared.SlotValue.TheVariants as value
-use Rattle.serializer.specs.declared.Elem.TheVariants as elem
 
 -- a run that ends at or below an index does not reach the element there
 run_ended : (index len ts want : ℕ) → 0 < ts → index + len / ts ≤ want → index * ts + len < want * ts + ts
@@ -31,7 +31,7 @@ run_ended index len ts want pos h =
     omega (arith, add-mul index d ts, add-mul d 1 ts, ap (λ x. x * ts) e)
 
 -- a slot that is passed is not the element, and does not stop the walk
-passed_next : (payload : List ℕ) (ts want : ℕ) (slot : Slot) → 0 < ts → Passed ts want slot → (below : Elem) → stopping (elem_look payload ts want) elem.Nothing want slot below ≡ below
+passed_next : (payload : List ℕ) (ts want : ℕ) (slot : Slot) → 0 < ts → Passed ts want slot → (below : Option Elem) → stopping (elem_look payload ts want) None want slot below ≡ below
 passed_next payload ts want slot pos p below = rw (le-ltb (slot.index + 4) want p.near) (go slot.value p.ended)
   where
     i : ℕ
@@ -60,9 +60,9 @@ module _ (s : List ℕ) (first ts : ℕ) where
   module _ (count : ℕ) where
     -- the walk from slot k of block b goes on at the block's first slot where its window holds the index sought
     pub block_passed : (payload blocks : List ℕ) (b want k : ℕ) → 0 < ts → Blocked s first count ts blocks → InWindow blocks b want → b * 512 ≤ k → k ≤ b * 512 + 512 → k ≤ count
-        → walk_down (elem_look payload ts want) elem.Nothing s first want k ≡ walk_down (elem_look payload ts want) elem.Nothing s first want (b * 512)
+        → walk_down (elem_look payload ts want) None s first want k ≡ walk_down (elem_look payload ts want) None s first want (b * 512)
     block_passed payload blocks b want k pos blocked w l m h =
-        down_skip (stopping (elem_look payload ts want) elem.Nothing want) elem.Nothing s first (b * 512) k l
+        down_skip (stopping (elem_look payload ts want) None want) None s first (b * 512) k l
         (λ i a n. passed_next payload ts want (slot_of s (first + i)) pos (blocked.windows b i want a (omega arith) w.0 w.1))
 
     -- zeros are no windows

@@ -1,5 +1,5 @@
 // A summary of an array's slots by blocks of 512, for many walks downward over them: a block that a walk would pass is not looked at.
-ghost use Rattle.std.specs.Prelude.{◌≡◌, true, ◌+◌, ◌*◌, ◌/◌, ◌<◌, ◌≤◌, min, max};
+ghost use Rattle.std.specs.Prelude.{◌≡◌, true, ◌+◌, ◌/◌, ◌≤◌, min};
 ghost use Rattle.serializer.specs.mirror.Blocks.{held, WindowOf, InWindow, Blocked};
 
 use crate::Window;
@@ -10,16 +10,14 @@ use store::SlotValue;
 pub fn elem_blocks(slots: &[u8], first: u32, count: u32, ts: u8) -> [u32; 4096]
     ensures { Blocked slots.now first count ts result }
 {
+    // Fixed room, as there is no heap.
     let mut blocks = [0u32; 4096];
-    let n = block_count(count);
-    let mut b: u32 = 0;
-    while b < n {
+    for b in 0..block_count(count) {
         let lo = b * 512;
         let w = window_of(slots, first, lo, block_end(lo, count), ts);
         let at = b as usize * 2;
         blocks[at] = w.from;
         blocks[at + 1] = w.to;
-        b += 1;
     }
     blocks
 }
@@ -41,11 +39,7 @@ fn block_count(count: u32) -> u32
 fn block_end(lo: u32, count: u32) -> u32
     ensures { result ≡ min (lo + 512) count }
 {
-    if count as u64 <= lo as u64 + 512 {
-        count
-    } else {
-        lo + 512
-    }
+    count.min(lo.saturating_add(512))
 }
 
 // The window of slots lo to hi - 1: it starts where their last element ends, and ends where a walk would stop at one of them.
@@ -53,15 +47,12 @@ fn window_of(slots: &[u8], first: u32, lo: u32, hi: u32, ts: u8) -> Window
     ensures { WindowOf slots.now first ts lo hi result.from result.to }
 {
     let mut from: u32 = 0;
-    let mut to: u32 = 4294967295;
-    let mut k = lo;
-    while k < hi {
+    let mut to = u32::MAX;
+    for k in lo..hi {
         let slot = store::slot_of(slots, first as usize + k as usize);
-        let index = slot.index;
-        let value = slot.value;
-        from = greater(from, sum(index, held(value, ts)));
-        to = lesser(to, sum(index, 5));
-        k += 1;
+        // A sum that does not fit is cut off where no window reaches.
+        from = from.max(slot.index.saturating_add(held(slot.value, ts)));
+        to = to.min(slot.index.saturating_add(5));
     }
     Window { from, to }
 }
@@ -87,45 +78,10 @@ fn whole(len: u32, ts: u8) -> u32
     if ts == 0 { 0 } else { len / ts as u32 }
 }
 
-// A sum that does not fit is cut off where no window reaches.
-fn sum(a: u32, b: u32) -> u32
-    ensures { result ≡ min (a + b) 4294967295 }
-{
-    if 4294967295 - b < a {
-        4294967295
-    } else {
-        a + b
-    }
-}
-
-fn greater(a: u32, b: u32) -> u32
-    ensures { result ≡ max a b }
-{
-    if a < b { b } else { a }
-}
-
-fn lesser(a: u32, b: u32) -> u32
-    ensures { result ≡ min a b }
-{
-    if a < b { a } else { b }
-}
-
 // Whether a walk for an index passes block b.
 pub(crate) fn passes(blocks: &[u32], b: u32, want: u64) -> bool
     ensures { result ≡ true → InWindow blocks.now b want }
 {
     let at = b as usize * 2;
-    if blocks.len() <= at + 1 {
-        return false;
-    }
-    if want < wide(blocks[at]) {
-        return false;
-    }
-    want < wide(blocks[at + 1])
-}
-
-fn wide(x: u32) -> u64
-    ensures { result ≡ x }
-{
-    x as u64
+    at + 1 < blocks.len() && blocks[at] as u64 <= want && want < blocks[at + 1] as u64
 }

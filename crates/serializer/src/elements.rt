@@ -1,11 +1,11 @@
 // An element of an array, by the walk downward.
-ghost use Rattle.std.specs.Prelude.{◌≡◌, ℕ, ◌+◌, ◌*◌, ◌/◌, ◌<◌, ◌≤◌, min};
-ghost use Rattle.serializer.specs.Down.{stops, walk_down};
+ghost use Rattle.std.specs.Prelude.{◌≡◌, ℕ, ◌<◌, ◌≤◌, None};
+ghost use Rattle.serializer.specs.Down.{walk_down};
 ghost use Rattle.serializer.specs.mirror.Blocks.{Blocked};
 ghost use Rattle.serializer.specs.mirror.Search.{elem_searched};
 ghost use Rattle.serializer.specs.Element.{elem_bytes, elem_ref, elem_raw, elem_inner, elem_repeat, elem_value, elem_look, elem_or};
 
-use crate::{Elem, ElemLook, Smi, Span};
+use crate::{Elem, Span};
 use store::SlotValue;
 
 // array_elem of an object's slots.
@@ -16,7 +16,7 @@ pub fn array_elem_unchecked(
     count: u32,
     ts: u8,
     element: u64,
-) -> Elem
+) -> Option<Elem>
     ensures { result ≡ elem_searched slots.now payload.now first count ts element }
 {
     let none = [0u32; 1];
@@ -24,6 +24,7 @@ pub fn array_elem_unchecked(
 }
 
 // The same by a summary of the slots, as `elem_blocks` makes it: for many elements of one array.
+#[tactic(auto, unfolding(crate::specs::mirror::Search::elem_searched))]
 pub fn array_elem_in(
     slots: &[u8],
     payload: &[u8],
@@ -32,15 +33,15 @@ pub fn array_elem_in(
     count: u32,
     ts: u8,
     element: u64,
-) -> Elem
+) -> Option<Elem>
     ensures { Blocked slots.now first count ts blocks.now
         → result ≡ elem_searched slots.now payload.now first count ts element }
 {
     if ts == 0 {
-        return Elem::Nothing;
+        return None;
     }
     if 4294967295 < element {
-        return Elem::Nothing;
+        return None;
     }
     let want = element + 2;
     let point = crate::slots::partition_point(slots, first, count, want + 1);
@@ -56,24 +57,24 @@ fn elem_down(
     start: u32,
     ts: u8,
     want: u64,
-) -> Elem
+) -> Option<Elem>
     requires { (0 < ts) × (want < 8589934592) }
     ensures { (count : ℕ) → start ≤ count → Blocked slots.now first count ts blocks.now
-        → result ≡ walk_down (elem_look payload.now ts want) Elem.Nothing slots.now first want start }
+        → result ≡ walk_down (elem_look payload.now ts want) None slots.now first want start }
 {
+    // A range of blocks would say no more plainly that the first of them is cut off at start.
     let mut k = start;
     while 0 < k {
         let top = k;
         let b = (k - 1) / 512;
         k = b * 512;
         if !crate::blocks::passes(blocks, b, want) {
-            match block_down(slots, payload, first, k, top, ts, want) {
-                ElemLook::Found(e) => return e,
-                ElemLook::Below => {}
+            if let Some(e) = block_down(slots, payload, first, k, top, ts, want) {
+                return e;
             }
         }
     }
-    Elem::Nothing
+    None
 }
 
 // The walk from slot hi downward to slot lo: what it finds, nothing where it stops, or that all these slots are passed over.
@@ -85,115 +86,106 @@ fn block_down(
     hi: u32,
     ts: u8,
     want: u64,
-) -> ElemLook
+) -> Option<Option<Elem>>
     requires { (lo ≤ hi) × (want < 8589934592) }
-    ensures { walk_down (elem_look payload.now ts want) Elem.Nothing slots.now first want hi
-        ≡ elem_or result (walk_down (elem_look payload.now ts want) Elem.Nothing slots.now first want lo) }
+    ensures { walk_down (elem_look payload.now ts want) None slots.now first want hi
+        ≡ elem_or result (walk_down (elem_look payload.now ts want) None slots.now first want lo) }
 {
-    let mut k = hi;
-    while lo < k {
-        k -= 1;
+    for k in (lo..hi).rev() {
         let slot = store::slot_of(slots, first as usize + k as usize);
-        let index = slot.index;
-        let value = slot.value;
-        match elem_in(value, payload, index, ts, want) {
-            ElemLook::Found(e) => return ElemLook::Found(e),
-            ElemLook::Below => {}
+        if let Some(e) = elem_in(slot.value, payload, slot.index, ts, want) {
+            return Some(e);
         }
-        if crate::slots::stops(index, want) {
-            return ElemLook::Found(Elem::Nothing);
+        if crate::slots::stops(slot.index, want) {
+            return Some(None);
         }
     }
-    ElemLook::Below
+    None
 }
 
 // What a slot's value says of the element.
-fn elem_in(value: SlotValue, payload: &[u8], index: u32, ts: u8, want: u64) -> ElemLook
+fn elem_in(value: SlotValue, payload: &[u8], index: u32, ts: u8, want: u64) -> Option<Option<Elem>>
     requires { want < 8589934592 }
     ensures { result ≡ elem_value payload.now value index ts want }
 {
     match value {
-        SlotValue::Object(n) => elem_ref(index, want, Elem::Object(n)),
-        SlotValue::Root => elem_ref(index, want, Elem::Root),
-        SlotValue::OtherRef => elem_ref(index, want, Elem::OtherRef),
+        SlotValue::Object(n) => elem_ref(index, want, Some(Elem::Object(n))),
+        SlotValue::Root => elem_ref(index, want, Some(Elem::Root)),
+        SlotValue::OtherRef => elem_ref(index, want, Some(Elem::OtherRef)),
         SlotValue::Raw(run) => elem_raw(payload, run, index, ts, want),
         SlotValue::Repeat(rep) => elem_repeat(payload, rep, index, ts, want),
-        SlotValue::Other => ElemLook::Below,
+        SlotValue::Other => None,
     }
 }
 
-fn elem_ref(index: u32, want: u64, e: Elem) -> ElemLook
+fn elem_ref(index: u32, want: u64, e: Option<Elem>) -> Option<Option<Elem>>
     ensures { result ≡ elem_ref index want e }
 {
-    if index as u64 == want {
-        ElemLook::Found(e)
-    } else {
-        ElemLook::Below
-    }
+    (index as u64 == want).then_some(e)
 }
 
-fn elem_raw(payload: &[u8], run: store::Run, index: u32, ts: u8, want: u64) -> ElemLook
+fn elem_raw(payload: &[u8], run: store::Run, index: u32, ts: u8, want: u64) -> Option<Option<Elem>>
     requires { want < 8589934592 }
     ensures { result ≡ elem_raw payload.now run index ts want }
 {
     let off = want * ts as u64;
     let start = index as u64 * ts as u64;
     if off < start {
-        return ElemLook::Below;
+        return None;
     }
     if start + (run.len as u64) < off + ts as u64 {
-        return ElemLook::Below;
+        return None;
     }
     let at = run.off as u64 + (off - start);
-    ElemLook::Found(elem_bytes(payload, at as usize, ts as usize))
+    Some(elem_bytes(payload, at as usize, ts as usize))
 }
 
-fn elem_repeat(payload: &[u8], rep: store::Repeat, index: u32, ts: u8, want: u64) -> ElemLook
+fn elem_repeat(
+    payload: &[u8],
+    rep: store::Repeat,
+    index: u32,
+    ts: u8,
+    want: u64,
+) -> Option<Option<Elem>>
     requires { want < 8589934592 }
     ensures { result ≡ elem_repeat payload.now rep index ts want }
 {
     let off = want * ts as u64;
     let start = index as u64 * ts as u64;
     if off < start {
-        return ElemLook::Below;
+        return None;
     }
     let places = rep.count as u64 * ts as u64;
     if start + places <= off {
-        return ElemLook::Below;
+        return None;
     }
     let inner = rep.inner;
-    ElemLook::Found(elem_inner(payload, inner, ts))
+    Some(elem_inner(payload, inner, ts))
 }
 
 // What a repeat repeats.
-fn elem_inner(payload: &[u8], inner: store::Inner, ts: u8) -> Elem
+fn elem_inner(payload: &[u8], inner: store::Inner, ts: u8) -> Option<Elem>
     ensures { result ≡ elem_inner payload.now inner ts }
 {
     match inner {
-        store::Inner::Object(n) => Elem::Object(n),
-        store::Inner::Root => Elem::Root,
-        store::Inner::OtherRef => Elem::OtherRef,
-        store::Inner::Raw(run) => elem_bytes(payload, run.off as usize, least(run.len, ts)),
-        store::Inner::Other => Elem::Nothing,
-    }
-}
-
-fn least(len: u32, ts: u8) -> usize
-    ensures { result ≡ min len ts }
-{
-    if len < ts as u32 {
-        len as usize
-    } else {
-        ts as usize
+        store::Inner::Object(n) => Some(Elem::Object(n)),
+        store::Inner::Root => Some(Elem::Root),
+        store::Inner::OtherRef => Some(Elem::OtherRef),
+        store::Inner::Raw(run) => elem_bytes(
+            payload,
+            run.off as usize,
+            run.len.min(ts as u32) as usize,
+        ),
+        store::Inner::Other => None,
     }
 }
 
 // A small integer, or the bytes.
-fn elem_bytes(payload: &[u8], at: usize, len: usize) -> Elem
+fn elem_bytes(payload: &[u8], at: usize, len: usize) -> Option<Elem>
     ensures { result ≡ elem_bytes payload.now at len }
 {
-    match crate::integers::smi_at(payload, at, len) {
-        Smi::Value(v) => Elem::Smi(v),
-        Smi::Nothing => Elem::Bytes(Span { at, len }),
-    }
+    Some(match crate::integers::smi_at(payload, at, len) {
+        Some(v) => Elem::Smi(v),
+        None => Elem::Bytes(Span { at, len }),
+    })
 }

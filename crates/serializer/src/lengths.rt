@@ -1,10 +1,7 @@
 // The length of an array.
-ghost use Rattle.std.specs.Prelude.{◌≡◌, ◌+◌, ◌*◌, ◌/◌, ◌<◌, max, length};
+ghost use Rattle.std.specs.Prelude.{◌≡◌, ◌+◌, ◌/◌, max, length};
 ghost use Rattle.serializer.specs.mirror.Search.{len_searched};
 ghost use Rattle.serializer.specs.Length.{room_for, agrees, plain_field, smi_field, plain_or, chosen};
-ghost use Rattle.serializer.specs.Offset.{behind};
-
-use crate::{RawAt, Smi};
 
 // Lengths.
 
@@ -23,46 +20,36 @@ pub fn array_len_unchecked(slots: &[u8], payload: &[u8], object: store::Object, 
         ts,
         crate::runs::raw_at_unchecked(slots, first, count, ts, ts as u64, ts as u64),
     );
-    let n = chosen(object, ts, plain, tagged);
-    let most = most_elements(payload, ts);
-    if n < most { n } else { most }
+    chosen(object, ts, plain, tagged).min(most_elements(payload, ts))
 }
 
 // As many elements as the payload has slots, and 2.
 fn most_elements(payload: &[u8], ts: u8) -> u64
     ensures { result ≡ length payload.now / max ts 1 + 2 }
 {
-    let size = payload.len() as u64;
-    if ts == 0 {
-        size + 2
-    } else {
-        size / ts as u64 + 2
-    }
+    payload.len() as u64 / ts.max(1) as u64 + 2
 }
 
-fn plain_field(payload: &[u8], field: RawAt) -> u32
+fn plain_field(payload: &[u8], field: Option<usize>) -> u32
     ensures { result ≡ plain_field payload.now field }
 {
     match field {
-        RawAt::At(at) => words::u32_at(payload, at),
-        RawAt::Nothing => 0,
+        Some(at) => words::u32_at(payload, at),
+        None => 0,
     }
 }
 
-fn smi_field(payload: &[u8], ts: u8, field: RawAt) -> Smi
+fn smi_field(payload: &[u8], ts: u8, field: Option<usize>) -> Option<i64>
     ensures { result ≡ smi_field payload.now ts field }
 {
-    match field {
-        RawAt::At(at) => crate::integers::smi_at(payload, at, ts as usize),
-        RawAt::Nothing => Smi::Nothing,
-    }
+    crate::integers::smi_at(payload, field?, ts as usize)
 }
 
 // The length that the object's size, or its mark, decides for.
-fn chosen(object: store::Object, ts: u8, plain: u32, tagged: Smi) -> u64
+fn chosen(object: store::Object, ts: u8, plain: u32, tagged: Option<i64>) -> u64
     ensures { result ≡ chosen object ts plain tagged }
 {
-    let Smi::Value(v) = tagged else {
+    let Some(v) = tagged else {
         return plain_or(object, ts, plain, 0);
     };
     let n = words::bits64(v);
@@ -76,33 +63,23 @@ fn chosen(object: store::Object, ts: u8, plain: u32, tagged: Smi) -> u64
 fn plain_or(object: store::Object, ts: u8, plain: u32, n: u64) -> u64
     ensures { result ≡ plain_or object ts plain n }
 {
-    if agrees(object.byte_size, ts, plain as u64) {
-        return plain as u64;
+    if agrees(object.byte_size, ts, plain as u64) || object.raw_len {
+        plain as u64
+    } else {
+        n
     }
-    if object.raw_len { plain as u64 } else { n }
 }
 
 // Whether an object of that size has n elements, of ts or of 8 bytes.
 fn agrees(size: u32, ts: u8, n: u64) -> bool
     ensures { result ≡ agrees size ts n }
 {
-    if n == room_for(size, ts, ts) {
-        return true;
-    }
-    n == room_for(size, ts, 8)
+    n == room_for(size, ts, ts) || n == room_for(size, ts, 8)
 }
 
 // How many elements of unit bytes fit behind the object's first two slots.
 fn room_for(size: u32, ts: u8, unit: u8) -> u64
     ensures { result ≡ room_for size ts unit }
 {
-    let head = 2 * ts as u32;
-    if size < head {
-        return 0;
-    }
-    if unit == 0 {
-        (size - head) as u64
-    } else {
-        ((size - head) / unit as u32) as u64
-    }
+    (size.saturating_sub(2 * ts as u32) / unit.max(1) as u32) as u64
 }

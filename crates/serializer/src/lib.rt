@@ -11,8 +11,8 @@ mod offsets;
 mod runs;
 mod slots;
 
-ghost use Rattle.std.specs.Prelude.{◌≡◌, ◌+◌, ◌/◌, ◌<◌, take, drop};
-ghost use Rattle.serializer.specs.Calls.{check_at, slot_answer, slot_call, raw_answer, raw_call, raw_part, len_call, elem_call, off_call};
+ghost use Rattle.std.specs.Prelude.{◌≡◌, take, drop};
+ghost use Rattle.serializer.specs.Calls.{check_at, slot_call, raw_call, raw_part, len_call, elem_call, off_call};
 ghost use Rattle.serializer.specs.Numbers.{slot_numbers, raw_numbers, len_numbers, elem_numbers, off_numbers};
 
 pub use blocks::elem_blocks;
@@ -20,31 +20,10 @@ pub use elements::{array_elem_in, array_elem_unchecked};
 pub use integers::{decode_smi_bytes, smi_at};
 pub use lengths::array_len_unchecked;
 pub use offsets::bca_rt_off_unchecked;
-use refusal::{Check, Refusal};
+use refusal::Refusal;
 pub use runs::raw_at_unchecked;
 pub use slots::slot_at_unchecked;
 use store::SlotValue;
-
-// A small integer.
-#[derive(Clone, Copy)]
-pub enum Smi {
-    Value(i64),
-    Nothing,
-}
-
-// The value of a slot.
-#[derive(Clone, Copy)]
-pub enum SlotAt {
-    At(SlotValue),
-    Nothing,
-}
-
-// Where in the payload a field starts.
-#[derive(Clone, Copy)]
-pub enum RawAt {
-    At(usize),
-    Nothing,
-}
 
 // Bytes of the payload.
 #[derive(Clone, Copy)]
@@ -61,48 +40,15 @@ pub enum Elem {
     OtherRef,
     Smi(i64),
     Bytes(Span),
-    Nothing,
 }
 
 // Answers of the calls on a lent store.
 
-#[derive(Clone, Copy)]
-pub enum SlotAnswer {
-    At(SlotValue),
-    Nothing,
-    Refused(Refusal),
-}
-
-#[derive(Clone, Copy)]
-pub enum RawAnswer {
-    At(usize),
-    Nothing,
-    Refused(Refusal),
-}
-
 // The answer of raw_at, and the part of the payload that it tells of.
 #[derive(Clone, Copy)]
 pub struct RawPart<'a> {
-    pub answer: RawAnswer,
+    pub answer: Result<Option<usize>, Refusal>,
     pub part: &'a [u8],
-}
-
-#[derive(Clone, Copy)]
-pub enum LenAnswer {
-    Len(u64),
-    Refused(Refusal),
-}
-
-#[derive(Clone, Copy)]
-pub enum ElemAnswer {
-    Elem(Elem),
-    Refused(Refusal),
-}
-
-#[derive(Clone, Copy)]
-pub enum OffAnswer {
-    Off(u64),
-    Refused(Refusal),
 }
 
 // Calls on a lent store and an object number, with the checks of rows 6, 7 and 8.
@@ -113,17 +59,13 @@ pub fn slot_at(
     payload: &[u8],
     object: usize,
     index: u64,
-) -> SlotAnswer
+) -> Result<Option<SlotValue>, Refusal>
     ensures { slot_numbers result
         ≡ slot_numbers (slot_call objects.now slots.now payload.now object index) }
 {
-    match check_at(objects, slots, payload, object) {
-        Check::Ok => {
-            let o = store::object_of(objects, object);
-            slot_answer(slots::slot_at_unchecked(slots, o.first, o.count, index))
-        }
-        Check::Refused(refusal) => SlotAnswer::Refused(refusal),
-    }
+    check_at(objects, slots, payload, object)?;
+    let o = store::object_of(objects, object);
+    Ok(slots::slot_at_unchecked(slots, o.first, o.count, index))
 }
 
 // Where in the payload the len bytes from byte off of the object on are, nothing or a refusal, and the part of the payload that holds
@@ -157,7 +99,7 @@ pub fn raw_run_at(
     object: usize,
     off: u64,
     len: u64,
-) -> RawAnswer
+) -> Result<Option<usize>, Refusal>
     ensures { raw_numbers result
         ≡ raw_numbers (raw_call objects.now slots.now payload.now ts object off len) }
 {
@@ -189,38 +131,36 @@ fn raw_found(
     object: usize,
     off: u64,
     len: u64,
-) -> RawAnswer
+) -> Result<Option<usize>, Refusal>
     ensures { result ≡ raw_call objects.now slots.now payload.now ts object off len }
 {
-    match check_at(objects, slots, payload, object) {
-        Check::Ok => {
-            let o = store::object_of(objects, object);
-            raw_answer(runs::raw_at_unchecked(slots, o.first, o.count, ts, off, len))
-        }
-        Check::Refused(refusal) => RawAnswer::Refused(refusal),
-    }
+    check_at(objects, slots, payload, object)?;
+    let o = store::object_of(objects, object);
+    Ok(runs::raw_at_unchecked(slots, o.first, o.count, ts, off, len))
 }
 
-fn raw_lent<'a>(payload: &'a [u8], answer: RawAnswer, len: u64) -> &'a [u8]
+fn raw_lent<'a>(payload: &'a [u8], answer: Result<Option<usize>, Refusal>, len: u64) -> &'a [u8]
     ensures { result.now ≡ raw_part payload.now answer len }
 {
-    let RawAnswer::At(at) = answer else {
+    let Ok(Some(at)) = answer else {
         return lent(payload, 0, 0);
     };
     lent(payload, at, len as usize)
 }
 
-pub fn array_len(objects: &[u8], slots: &[u8], payload: &[u8], ts: u8, object: usize) -> LenAnswer
+pub fn array_len(
+    objects: &[u8],
+    slots: &[u8],
+    payload: &[u8],
+    ts: u8,
+    object: usize,
+) -> Result<u64, Refusal>
     ensures { len_numbers result
         ≡ len_numbers (len_call objects.now slots.now payload.now ts object) }
 {
-    match check_at(objects, slots, payload, object) {
-        Check::Ok => {
-            let o = store::object_of(objects, object);
-            LenAnswer::Len(lengths::array_len_unchecked(slots, payload, o, ts))
-        }
-        Check::Refused(refusal) => LenAnswer::Refused(refusal),
-    }
+    check_at(objects, slots, payload, object)?;
+    let o = store::object_of(objects, object);
+    Ok(lengths::array_len_unchecked(slots, payload, o, ts))
 }
 
 pub fn array_elem(
@@ -230,19 +170,13 @@ pub fn array_elem(
     ts: u8,
     object: usize,
     element: u64,
-) -> ElemAnswer
+) -> Result<Option<Elem>, Refusal>
     ensures { elem_numbers result
         ≡ elem_numbers (elem_call objects.now slots.now payload.now ts object element) }
 {
-    match check_at(objects, slots, payload, object) {
-        Check::Ok => {
-            let o = store::object_of(objects, object);
-            ElemAnswer::Elem(elements::array_elem_unchecked(
-                slots, payload, o.first, o.count, ts, element,
-            ))
-        }
-        Check::Refused(refusal) => ElemAnswer::Refused(refusal),
-    }
+    check_at(objects, slots, payload, object)?;
+    let o = store::object_of(objects, object);
+    Ok(elements::array_elem_unchecked(slots, payload, o.first, o.count, ts, element))
 }
 
 // unit is the table's slot_unit.
@@ -254,69 +188,31 @@ pub fn bca_rt_off(
     unit: u8,
     object: usize,
     off: u32,
-) -> OffAnswer
+) -> Result<u64, Refusal>
     ensures { off_numbers result
         ≡ off_numbers (off_call objects.now slots.now payload.now ts unit object off) }
 {
-    match check_at(objects, slots, payload, object) {
-        Check::Ok => {
-            let o = store::object_of(objects, object);
-            OffAnswer::Off(offsets::bca_rt_off_unchecked(slots, o.first, o.count, ts, unit, off))
-        }
-        Check::Refused(refusal) => OffAnswer::Refused(refusal),
-    }
+    check_at(objects, slots, payload, object)?;
+    let o = store::object_of(objects, object);
+    Ok(offsets::bca_rt_off_unchecked(slots, o.first, o.count, ts, unit, off))
 }
 
-fn check_at(objects: &[u8], slots: &[u8], payload: &[u8], object: usize) -> Check
+fn check_at(objects: &[u8], slots: &[u8], payload: &[u8], object: usize) -> Result<(), Refusal>
     ensures { result ≡ check_at objects.now slots.now payload.now object }
 {
-    refusal::first_refusal(
-        store::check_store(objects, slots, payload),
-        store::check_object(objects, object),
-    )
-}
-
-fn slot_answer(found: SlotAt) -> SlotAnswer
-    ensures { result ≡ slot_answer found }
-{
-    match found {
-        SlotAt::At(value) => SlotAnswer::At(value),
-        SlotAt::Nothing => SlotAnswer::Nothing,
-    }
-}
-
-fn raw_answer(found: RawAt) -> RawAnswer
-    ensures { result ≡ raw_answer found }
-{
-    match found {
-        RawAt::At(at) => RawAnswer::At(at),
-        RawAt::Nothing => RawAnswer::Nothing,
-    }
+    store::check_store(objects, slots, payload)?;
+    store::check_object(objects, object)
 }
 
 // The n bytes from place at on, as far as s reaches.
 pub fn lent<'a>(s: &'a [u8], at: usize, n: usize) -> &'a [u8]
     ensures { result.now ≡ take n (drop at s.now) }
 {
-    let size = s.len();
-    if size <= at {
-        return &s[0..0];
-    }
-    if n < size - at {
-        let e = at + n;
-        return &s[at..e];
-    }
-    &s[at..]
+    let rest = &s[at.min(s.len())..];
+    &rest[..n.min(rest.len())]
 }
 
 // Elements.
-
-// What a slot says of an element: Below, that it is passed over.
-#[derive(Clone, Copy)]
-enum ElemLook {
-    Found(Elem),
-    Below,
-}
 
 // The indices, from `from` on and below `to`, for which a walk downward passes a block of slots.
 #[derive(Clone, Copy)]
@@ -326,10 +222,3 @@ struct Window {
 }
 
 // Offsets.
-
-// The index of the last plain raw slot.
-#[derive(Clone, Copy)]
-enum Tail {
-    At(u32),
-    Nothing,
-}

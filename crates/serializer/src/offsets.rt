@@ -1,11 +1,11 @@
 // Offsets of a BytecodeArray as it runs.
-ghost use Rattle.std.specs.Prelude.{◌≡◌, ◌+◌, ◌*◌, ◌/◌, ◌<◌};
+ghost use Rattle.std.specs.Prelude.{◌≡◌, ◌*◌, ◌/◌, Some};
 ghost use Rattle.serializer.specs.Offset.{is_raw, raw_tail, behind, rt_off};
 
-use crate::Tail;
 use store::SlotValue;
 
 // bca_rt_off of an object's slots: where byte off of the capture is at run time.
+#[tactic(auto, unfolding(crate::specs::Offset::rt_off))]
 pub fn bca_rt_off_unchecked(slots: &[u8], first: u32, count: u32, ts: u8, unit: u8, off: u32) -> u64
     ensures { result ≡ rt_off slots.now first count ts unit off }
 {
@@ -13,42 +13,32 @@ pub fn bca_rt_off_unchecked(slots: &[u8], first: u32, count: u32, ts: u8, unit: 
         return off as u64;
     }
     match raw_tail(slots, first, count) {
-        Tail::At(index) => behind_tail(index, ts, unit, off),
-        Tail::Nothing => scaled(ts, unit, off),
+        Some(index) => behind_tail(index, ts, unit, off),
+        None => scaled(ts, unit, off),
     }
 }
 
 // The last plain raw slot in stored order.
-fn raw_tail(slots: &[u8], first: u32, count: u32) -> Tail
+fn raw_tail(slots: &[u8], first: u32, count: u32) -> Option<u32>
     ensures { result ≡ raw_tail slots.now first count }
 {
-    let mut k = count;
-    while 0 < k {
-        k -= 1;
+    for k in (0..count).rev() {
         let slot = store::slot_of(slots, first as usize + k as usize);
-        let value = slot.value;
-        if is_raw(value) {
-            return Tail::At(slot.index);
+        if is_raw(slot.value) {
+            return Some(slot.index);
         }
     }
-    Tail::Nothing
+    None
 }
 
 fn is_raw(value: SlotValue) -> bool
     ensures { result ≡ is_raw value }
 {
-    match value {
-        SlotValue::Raw(_) => true,
-        SlotValue::Object(_) => false,
-        SlotValue::Root => false,
-        SlotValue::OtherRef => false,
-        SlotValue::Repeat(_) => false,
-        SlotValue::Other => false,
-    }
+    matches!(value, SlotValue::Raw(_))
 }
 
 fn behind_tail(index: u32, ts: u8, unit: u8, off: u32) -> u64
-    ensures { result ≡ behind (Tail.At index) ts unit off }
+    ensures { result ≡ behind (Some index) ts unit off }
 {
     let tail = index as u64 * unit as u64;
     let from = off as u64;

@@ -1,26 +1,33 @@
 // The field that a raw run holds, by the walk downward.
-ghost use Rattle.std.specs.Prelude.{◌≡◌, ◌+◌, ◌*◌, ◌/◌, ◌<◌};
-ghost use Rattle.serializer.specs.Down.{stops, walk_down};
+ghost use Rattle.std.specs.Prelude.{◌≡◌, None};
+ghost use Rattle.serializer.specs.Down.{walk_down};
 ghost use Rattle.serializer.specs.mirror.Search.{raw_searched};
 ghost use Rattle.serializer.specs.Field.{raw_run, raw_value, raw_look};
 
-use crate::RawAt;
 use store::SlotValue;
 
 // Fields in raw runs.
 
 // raw_at of an object's slots: where in the payload the len bytes from byte off of the object on are.
-pub fn raw_at_unchecked(slots: &[u8], first: u32, count: u32, ts: u8, off: u64, len: u64) -> RawAt
+#[tactic(auto, unfolding(crate::specs::mirror::Search::raw_searched))]
+pub fn raw_at_unchecked(
+    slots: &[u8],
+    first: u32,
+    count: u32,
+    ts: u8,
+    off: u64,
+    len: u64,
+) -> Option<usize>
     ensures { result ≡ raw_searched slots.now first count ts off len }
 {
     if ts == 0 {
-        return RawAt::Nothing;
+        return None;
     }
     if 4294967295 < off {
-        return RawAt::Nothing;
+        return None;
     }
     if 4294967295 < len {
-        return RawAt::Nothing;
+        return None;
     }
     let want = off / ts as u64;
     let start = crate::slots::partition_point(slots, first, count, want + 1);
@@ -28,46 +35,49 @@ pub fn raw_at_unchecked(slots: &[u8], first: u32, count: u32, ts: u8, off: u64, 
 }
 
 // The walk from slot start downward.
-fn raw_down(slots: &[u8], first: u32, start: u32, ts: u8, want: u64, off: u32, len: u32) -> RawAt
-    ensures { result ≡ walk_down (raw_look ts off len) RawAt.Nothing slots.now first want start }
+fn raw_down(
+    slots: &[u8],
+    first: u32,
+    start: u32,
+    ts: u8,
+    want: u64,
+    off: u32,
+    len: u32,
+) -> Option<usize>
+    ensures { result ≡ walk_down (raw_look ts off len) None slots.now first want start }
 {
-    let mut k = start;
-    while 0 < k {
-        k -= 1;
+    for k in (0..start).rev() {
         let slot = store::slot_of(slots, first as usize + k as usize);
-        let index = slot.index;
-        let value = slot.value;
-        match raw_in(value, index, ts, off, len) {
-            RawAt::At(at) => return RawAt::At(at),
-            RawAt::Nothing => {}
+        if let Some(at) = raw_in(slot.value, slot.index, ts, off, len) {
+            return Some(at);
         }
-        if crate::slots::stops(index, want) {
-            return RawAt::Nothing;
+        if crate::slots::stops(slot.index, want) {
+            return None;
         }
     }
-    RawAt::Nothing
+    None
 }
 
 // Whether a slot's value holds the field.
-fn raw_in(value: SlotValue, index: u32, ts: u8, off: u32, len: u32) -> RawAt
+fn raw_in(value: SlotValue, index: u32, ts: u8, off: u32, len: u32) -> Option<usize>
     ensures { result ≡ raw_value value index ts off len }
 {
     let SlotValue::Raw(run) = value else {
-        return RawAt::Nothing;
+        return None;
     };
     raw_run(run, index, ts, off, len)
 }
 
-fn raw_run(run: store::Run, index: u32, ts: u8, off: u32, len: u32) -> RawAt
+fn raw_run(run: store::Run, index: u32, ts: u8, off: u32, len: u32) -> Option<usize>
     ensures { result ≡ raw_run run index ts off len }
 {
     let start = index as u64 * ts as u64;
     let from = off as u64;
     if from < start {
-        return RawAt::Nothing;
+        return None;
     }
     if start + (run.len as u64) < from + len as u64 {
-        return RawAt::Nothing;
+        return None;
     }
-    RawAt::At((run.off as u64 + (from - start)) as usize)
+    Some((run.off as u64 + (from - start)) as usize)
 }

@@ -1,33 +1,30 @@
 // A slot by its index.
-ghost use Rattle.std.specs.Prelude.{◌≡◌, ◌+◌, ◌/◌, ◌<◌};
+ghost use Rattle.std.specs.Prelude.{◌≡◌};
 ghost use Rattle.serializer.specs.Down.{stops};
 ghost use Rattle.serializer.specs.mirror.Search.{point_at, slot_searched};
 
-use crate::SlotAt;
+use store::SlotValue;
 
 // Slots by their index.
 
 // slot_at of an object's slots.
-pub fn slot_at_unchecked(slots: &[u8], first: u32, count: u32, index: u64) -> SlotAt
+#[tactic(auto, unfolding(crate::specs::mirror::Search::slot_searched))]
+pub fn slot_at_unchecked(slots: &[u8], first: u32, count: u32, index: u64) -> Option<SlotValue>
     ensures { result ≡ slot_searched slots.now first count index }
 {
     let i = partition_point(slots, first, count, index);
     if count <= i {
-        return SlotAt::Nothing;
+        return None;
     }
     let slot = store::slot_of(slots, first as usize + i as usize);
-    if slot.index as u64 == index {
-        let value = slot.value;
-        SlotAt::At(value)
-    } else {
-        SlotAt::Nothing
-    }
+    (slot.index as u64 == index).then_some(slot.value)
 }
 
 // How many of the slots have an index below the one given, where they are in order of their index.
 pub(crate) fn partition_point(slots: &[u8], first: u32, count: u32, below: u64) -> u32
     ensures { result ≡ point_at slots.now first count below }
 {
+    // The library's partition_point is over a slice of slots, and these lie as bytes.
     let mut lo: u32 = 0;
     let mut hi = count;
     while lo < hi {

@@ -3,7 +3,7 @@ use Prim.Native.Nat.{ℕ, suc, ◌+◌, ◌-◌, ◌≤◌, min}
 use mathlib.Core.Path.{◌≡◌, refl, sym, ap, subst, ◌∙◌}
 use mathlib.Core.Bool.{Bool, true, false, cond}
 use mathlib.Core.List.{List, [], ◌∷◌, map}
-use mathlib.Core.Option.{Option, none, some}
+use Rattle.std.specs.Prelude.{Option, None, Some}
 use native.Mathlib.Omega.{arith}
 use lib.Dec.{eqb, leb, ltb}
 use lib.ListN.{length, get_or}
@@ -19,13 +19,15 @@ use Rattle.prefix.specs.Head.{op_at, behind, head_at}
 use Rattle.decoder.specs.declared.Instr.{Instr}
 use Rattle.decoder.specs.declared.Outcome.{Outcome}
 use Rattle.decoder.specs.declared.Decoded.{Decoded}
-use Rattle.decoder.specs.Decode.{blank, Part, parts_from, operand_types, part_width, offset_of, operands_from, is_short, short_number, instr_of, read_parts, decode_head, decode_at}
+use Rattle.decoder.specs.Decode.{blank, Part, parts_from, operand_types, part_width, offset_of, operands_from, is_short, short_fault, instr_of, read_parts, decode_head, decode_at}
 use Rattle.flow.specs.Opcodes.{Opcodes}
 use Rattle.handlers.specs.Handlers.{handler_among, handler_at}
 use Rattle.handlers.specs.mirror.Catches.{handler_word, catch_word, opcode_at}
 use Rattle.search.specs.mirror.Kept.{catch_steps}
 use Rattle.search.proofs.Laws.{catch_yes, catch_no}
 use Rattle.search.proofs.Kept.{Same, same_steps, same_low}
+use Rattle.refusal.specs.declared.Fault.{Fault}
+use Rattle.refusal.specs.declared.Fault.TheVariants as fault
 use Rattle.steps.specs.Steps.{Source, to_handler, handler_steps}
 
 -- ---- the opcode of what was decoded
@@ -46,12 +48,12 @@ module _ (code : List ℕ) (ops : Opcodes) (types : List ℕ) (rfs : ℤ) (wide 
       at_place : (start scale at : ℕ) → Has (get_or code at 0) (op_at code ops.many start scale at)
       at_place start scale at = by_test (Has (get_or code at 0)) (leb ops.many (get_or code at 0)) (λ _. tt) (λ _. refl)
 
-      past_prefix : (number scale : ℕ) → Has (get_or code (o + 1) 0) (behind code ops.many o number scale)
-      past_prefix number scale = by_test (Has (get_or code (o + 1) 0)) (eqb (o + 1) (length code)) (λ _. tt) (λ _. at_place o scale (o + 1))
+      past_prefix : (f : Fault) (scale : ℕ) → Has (get_or code (o + 1) 0) (behind code ops.many o f scale)
+      past_prefix f scale = by_test (Has (get_or code (o + 1) 0)) (eqb (o + 1) (length code)) (λ _. tt) (λ _. at_place o scale (o + 1))
 
-      by_prefix : (w e : Bool) → Has (cond w (get_or code (o + 1) 0) (cond e (get_or code (o + 1) 0) (get_or code o 0))) (cond w (behind code ops.many o 11 2) (cond e (behind code ops.many o 12 4) (op_at code ops.many o 1 o)))
-      by_prefix true e = past_prefix 11 2
-      by_prefix false true = past_prefix 12 4
+      by_prefix : (w e : Bool) → Has (cond w (get_or code (o + 1) 0) (cond e (get_or code (o + 1) 0) (get_or code o 0))) (cond w (behind code ops.many o fault.EndsAfterWide 2) (cond e (behind code ops.many o fault.EndsAfterExtraWide 4) (op_at code ops.many o 1 o)))
+      by_prefix true e = past_prefix fault.EndsAfterWide 2
+      by_prefix false true = past_prefix fault.EndsAfterExtraWide 4
       by_prefix false false = at_place o 1 o
 
   -- what is read behind an opcode has that opcode, where it is read whole
@@ -63,7 +65,7 @@ module _ (code : List ℕ) (ops : Opcodes) (types : List ℕ) (rfs : ℤ) (wide 
   read_op scale opcode at ps =
       let ws = map (part_width types scale) ps in
       let k = first_from (is_short code ws at) 0 (length ps) in
-      go (ltb k (length ps)) (refusal_at (short_number (get_or ps k Part.count)) (at + offset_of ws k)) (instr_of o opcode scale (at + offset_of ws (length ps)) (operands_from code ws at rfs 0 ps)) refl
+      go (ltb k (length ps)) (refusal_at (short_fault (get_or ps k Part.count)) (at + offset_of ws k)) (instr_of o opcode scale (at + offset_of ws (length ps)) (operands_from code ws at rfs 0 ps)) refl
     where
       go : (b : Bool) (r : Refusal) (i : Instr) → i.opcode ≡ opcode → Keeps_op opcode (cond b (record { outcome = Outcome.Refused r; instr = blank }) (record { outcome = Outcome.Done; instr = i }))
       go true r i e done = let x : ◌≡◌ {A = ℕ} 0 1 = cc in absurd (omega (arith, x))
@@ -89,8 +91,8 @@ catch_same s heads catches small i o at is = go (s.opcodes.returns i.opcode) (ha
 
     go : (r : Bool) (h : Option ℕ) → get_or catches o 0 ≡ cond r 0 (handler_word h) → Same heads (cond r [] (to_handler h)) (catch_steps catches o)
     go true h z = nothing z
-    go false none z = nothing z
-    go false (some t) z =
+    go false None z = nothing z
+    go false (Some t) z =
         let place : suc (min t 65536) ≡ get_or catches o 0 = sym z in
         let back : min t 65536 ≡ suc (min t 65536) - 1 = omega arith in
         subst (Same heads (to_offset t ∷ [])) (ap (λ (x : ℕ). to_offset x ∷ []) back ∙ sym (catch_yes catches o place (λ e. omega (arith, e)))) (same_low heads 65536 small t)

@@ -12,7 +12,7 @@ use Rattle.decoder.specs.declared.Outcome.{Outcome}
 use Rattle.decoder.proofs.Listed.{past}
 use Rattle.decoder.proofs.Short.{short}
 use Rattle.flow.specs.Opcodes.{prefix_with}
-use Rattle.search.specs.declared.Searched.{Searched}
+use Rattle.search.specs.declared.Walked.{Walked}
 use Rattle.search.specs.mirror.Kept.{catch_steps, kept_steps, kept_graph, IsFound}
 use Rattle.search.proofs.Kept.{Same, same_append, kept_starts, kept_found}
 use Rattle.steps.specs.Steps.{Source, instr_steps, handler_steps, listing, walk_graph}
@@ -53,7 +53,7 @@ module _ (s : Source) (heads words catches : List ℕ) (k : Keeps s heads words)
   same_steps : (o : ℕ) → is_start (walk_graph s) o ≡ true → Same heads ((walk_graph s).steps o) (catch_steps catches o ++ kept_steps s.elem words o (get_or heads o 0))
   same_steps o e = subst (λ (l : List Step). Same heads l (catch_steps catches o ++ kept_steps s.elem words o (get_or heads o 0))) (sym (at_start s o e)) (same_append (handler_same o e) (own_same o e))
 
-  pub keeps_found : (listing s).outcome ≡ Outcome.End → (n : ℕ) (r : Searched) (M : List ℕ) → IsFound (kept_graph s.elem heads words catches) n r M → IsFound (walk_graph s) n r M
+  pub keeps_found : (listing s).outcome ≡ Outcome.End → (n : ℕ) (r : Walked) (M : List ℕ) → IsFound (kept_graph s.elem heads words catches) n r M → IsFound (walk_graph s) n r M
   keeps_found ended n r M f =
       let g = walk_good s ended in
       kept_found s.elem heads words catches (walk_graph s) g (kept_starts s.elem heads words catches (walk_graph s) g k.starts) same_steps n r M f

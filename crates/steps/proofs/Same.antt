@@ -1,4 +1,5 @@
 -- What is kept of an instruction does the same as its steps: `kept_same`. Assumes nothing.
+use Rattle.std.specs.Prelude.{ℤ}
 use Prim.Native.Nat.{ℕ, zero, suc, ◌+◌, ◌<◌, ◌≤◌}
 use mathlib.Core.Path.{◌≡◌, refl, sym, ap, subst, ◌∙◌}
 use mathlib.Core.Bool.{Bool}
@@ -13,28 +14,25 @@ use Rattle.decoder.specs.declared.Instr.{Instr}
 use Rattle.flow.specs.declared.Flow.{Flow}
 use Rattle.flow.specs.declared.Kind.{Kind}
 use Rattle.flow.specs.declared.Kind.TheVariants.{On, Ends, Jumps, Branches, JumpsBack, Switch}
+use Rattle.std.specs.Prelude.{Option, Some, None, Result, Ok, Err}
 use Rattle.serializer.specs.declared.Elem.{Elem}
 use Rattle.targets.specs.Targets.{here, smi_of, target_from, jump_target, jump_table, entry_by, entry_at}
-use Rattle.targets.specs.declared.Number.{Number}
-use Rattle.targets.specs.declared.Number.TheVariants as number
 use Rattle.targets.specs.declared.Entries.{Entries}
-use Rattle.targets.specs.declared.Target.{Target}
-use Rattle.targets.specs.declared.Table.{Table}
-use Rattle.targets.specs.declared.Table.TheVariants as table
 use Rattle.search.specs.mirror.Kept.{shown, entries_from, kept_steps, word_of}
 use Rattle.search.proofs.Kept.{Same, same_steps, same_append, same_word, form_ends, form_on, form_jump, form_branch, form_table}
 use Rattle.steps.specs.Steps.{to_target, entry_steps, entries_steps, table_steps, jumps_by, on_by, jump_steps, instr_steps}
 use Rattle.steps.specs.mirror.Keeping.{prefix_of, kept_table, kept_by, kept_of}
+use Rattle.targets.specs.declared.BadSwitch.{BadSwitch}
 
 -- ---- the entries of a table
-module _ (el : ℕ → Elem) (at : ℕ) (e : Entries) where
+module _ (el : ℕ → Option Elem) (at : ℕ) (e : Entries) where
   entry_is : (k : ℕ) → entry_steps (entry_at el at e k) ≡ shown (target_from at (smi_of (el (e.start + k))))
   unfolding entry_at
   entry_is k = go (smi_of (el (e.start + k)))
     where
-      go : (n : Number) → entry_steps (entry_by n at e k) ≡ shown (target_from at n)
-      go (number.Is v) = refl
-      go number.Nothing = refl
+      go : (n : Option ℤ) → entry_steps (entry_by n at e k) ≡ shown (target_from at n)
+      go (Some v) = refl
+      go None = refl
 
   entries_are : (k n m : ℕ) → m ≡ e.start + k → entries_steps el at e k n ≡ entries_from el at m n
   unfolding entries_steps entries_from
@@ -44,26 +42,26 @@ module _ (el : ℕ → Elem) (at : ℕ) (e : Entries) where
       ∙ ap (λ (l : List Step). shown (target_from at (smi_of (el m))) ++ l) (entries_are (k + 1) n (suc m) (omega (arith, h)))
 
 -- ---- the steps of an instruction at o of so many bytes
-module _ (el : ℕ → Elem) (heads words : List ℕ) (low : length heads ≤ 4294967295) (o size : ℕ) (small : size < 256) where
+module _ (el : ℕ → Option Elem) (heads words : List ℕ) (low : length heads ≤ 4294967295) (o size : ℕ) (small : size < 256) where
   -- one that has no table goes on
   goes_on : Same heads (to_offset (o + size) ∷ []) (kept_steps el words o (size + 256))
   goes_on = same_steps (sym (form_on el words o size small))
 
   -- a target by its word
-  target_same : (t : Target) → get_or words o 0 ≡ word_of (to_target t) → Same heads (to_target t ∷ []) (to_offset (get_or words o 0) ∷ [])
+  target_same : (t : Option ℕ) → get_or words o 0 ≡ word_of (to_target t) → Same heads (to_target t ∷ []) (to_offset (get_or words o 0) ∷ [])
   target_same t w = rw w (same_word heads low (to_target t))
 
-  table_same : (t : Table) (prefix at : ℕ) → prefix ≤ 1 → at ≡ o + prefix → get_or words o 0 ≡ (kept_table t prefix size).word
+  table_same : (t : Result (Option Entries) BadSwitch) (prefix at : ℕ) → prefix ≤ 1 → at ≡ o + prefix → get_or words o 0 ≡ (kept_table t prefix size).word
       → Same heads (table_steps el at t ++ to_offset (o + size) ∷ []) (kept_steps el words o (kept_table t prefix size).head)
-  table_same table.Nothing prefix at one h w = goes_on
-  table_same (table.At e) prefix at one h w =
+  table_same (Ok None) prefix at one h w = goes_on
+  table_same (Ok (Some e)) prefix at one h w =
       same_steps
       (ap (λ (l : List Step). l ++ to_offset (o + size) ∷ [])
       (entries_are el at e 0 e.count e.start (omega arith) ∙ ap (λ (x : ℕ). entries_from el x e.start e.count) h ∙ ap (λ (x : ℕ). entries_from el (o + prefix) x e.count) (sym w))
       ∙ sym (form_table el words o size small prefix e.count one))
-  table_same table.Refused prefix at one h w = goes_on
+  table_same (Err e) prefix at one h w = goes_on
 
-  by_kind : (k : Kind) (t : Target) (entries : Table) (prefix at : ℕ) → prefix ≤ 1 → at ≡ o + prefix → get_or words o 0 ≡ (kept_by k t entries prefix size).word
+  by_kind : (k : Kind) (t : Option ℕ) (entries : Result (Option Entries) BadSwitch) (prefix at : ℕ) → prefix ≤ 1 → at ≡ o + prefix → get_or words o 0 ≡ (kept_by k t entries prefix size).word
       → Same heads (jumps_by k t (table_steps el at entries) ++ on_by k (o + size)) (kept_steps el words o (kept_by k t entries prefix size).head)
   by_kind On t entries prefix at one h w = goes_on
   by_kind Ends t entries prefix at one h w = same_steps (sym (form_ends el words o size small))

@@ -10,7 +10,10 @@ ghost use Rattle.steps.specs.mirror.Keeping.{prefix_of, kept_end, kept_on, kept_
 
 use decoder::Instr;
 use flow::{Flow, Kind};
-use targets::{Pool, Table, Target};
+use targets::{BadSwitch, Entries, PoolSlots};
+
+// The word of no target: a place where nothing starts.
+const NOWHERE: u32 = 4294967295;
 
 // The head and the word of an instruction, and whether number 16 refuses its table.
 #[derive(Clone, Copy)]
@@ -26,7 +29,7 @@ pub fn kept_of(
     payload: &[u8],
     blocks: &[u32],
     ts: u8,
-    pool: Pool,
+    pool: Option<PoolSlots>,
     flow: Flow,
     instr: Instr,
     size: u8,
@@ -34,11 +37,10 @@ pub fn kept_of(
     ensures { PoolBlocked slots.now ts pool blocks.now
         → result ≡ kept_of (pool_searched slots.now payload.now ts pool) (found pool) flow instr size }
 {
-    let kind = flow.kind;
-    match kind {
+    match flow.kind {
         Kind::On => kept_on(size),
         Kind::Ends => kept_end(size),
-        Kind::Jumps => kept_jump(
+        Kind::Jumps | Kind::JumpsBack => kept_jump(
             slots,
             payload,
             blocks,
@@ -57,16 +59,6 @@ pub fn kept_of(
             flow,
             instr,
             size as u32 + 768,
-        ),
-        Kind::JumpsBack => kept_jump(
-            slots,
-            payload,
-            blocks,
-            ts,
-            pool,
-            flow,
-            instr,
-            size as u32 + 512,
         ),
         Kind::Switch => kept_table(
             targets::jump_table_unchecked(pool, flow, instr),
@@ -104,7 +96,7 @@ fn kept_jump(
     payload: &[u8],
     blocks: &[u32],
     ts: u8,
-    pool: Pool,
+    pool: Option<PoolSlots>,
     flow: Flow,
     instr: Instr,
     head: u32,
@@ -121,27 +113,27 @@ fn kept_jump(
 }
 
 // The word of a target: a place too high for one, and no target, are kept as a place where nothing starts.
-fn word_of(target: Target) -> u32
+fn word_of(target: Option<u64>) -> u32
     ensures { result ≡ word_of (to_target target) }
 {
     match target {
-        Target::At(t) => { if t < 4294967295 { t as u32 } else { 4294967295 } }
-        Target::Nothing => 4294967295,
+        Some(t) => t.min(NOWHERE as u64) as u32,
+        None => NOWHERE,
     }
 }
 
 // Of a switch: the number of its first element, and how many there are. Without a table it goes on.
-fn kept_table(table: Table, prefix: u8, size: u8) -> Kept
+fn kept_table(table: Result<Option<Entries>, BadSwitch>, prefix: u8, size: u8) -> Kept
     ensures { result ≡ kept_table table prefix size }
 {
     match table {
-        Table::Nothing => kept_on(size),
-        Table::At(e) => Kept {
+        Ok(None) => kept_on(size),
+        Ok(Some(e)) => Kept {
             head: size as u32 + 1280 + 2048 * prefix as u32 + 4096 * e.count as u32,
             word: e.start,
             refused: false,
         },
-        Table::Refused => Kept {
+        Err(BadSwitch) => Kept {
             head: size as u32 + 256,
             word: 0,
             refused: true,

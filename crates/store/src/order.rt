@@ -1,34 +1,25 @@
 // Indices that fall within an object: row 7.
-ghost use Rattle.std.specs.Prelude.{◌≡◌, cond, ◌*◌, ◌<◌, ◌≤◌, min, ltb, length};
+ghost use Rattle.std.specs.Prelude.{◌≡◌, ◌*◌, ◌<◌, ◌≤◌, length};
 ghost use Rattle.laws.specs.Scan.{first_from};
 ghost use Rattle.store.specs.Records.{object_count};
 ghost use Rattle.store.specs.mirror.Falls.{Later};
 ghost use Rattle.store.specs.Check.{falls_in, falls};
 
-use crate::Slot;
-
 // Row 7, slots whose index falls.
 
-fn least(a: usize, b: usize) -> usize
-    ensures { result ≡ min a b }
-{
-    if a < b { a } else { b }
-}
-
 // The first slot below end that falls within the count slots from first on, or end.
+// The end stands for none here and below: the next search ends at it, the least over all objects starts from it, and it fits a u32 of the table.
 fn first_fall_in(slots: &[u8], first: u32, count: u32, end: usize) -> usize
     ensures { result ≡ first_from (falls_in slots.now first count) 0 end }
 {
-    let stop = least(first as usize + count as usize, end);
-    let mut k = first as usize + 1;
+    let stop = end.min(first as usize + count as usize);
     let mut before = crate::records::slot_index(slots, first as usize);
-    while k < stop {
+    for k in first as usize + 1..stop {
         let index = crate::records::slot_index(slots, k);
         if index < before {
             return k;
         }
         before = index;
-        k += 1;
     }
     end
 }
@@ -41,34 +32,21 @@ const PARTS: usize = 4096;
 
 const FEW_PARTS: usize = 16;
 
-// Slot k if its index, here, is lower than the one before it, else the slot found already.
-fn fall_or(here: u32, before: u32, k: usize, found: usize) -> usize
-    ensures { result ≡ cond (ltb here before) k found }
-{
-    if here < before { k } else { found }
-}
-
 // Writes down for each part behind the first the first slot from the part's start on whose index is lower than the one before it.
 fn find_falls(slots: &[u8], later: &mut [u32], end: usize)
     requires { (0 < end) × (end ≤ 1048576) × (end ≤ length later.old * 256) }
     ensures { Later slots.now end later.new }
 {
-    let mut k = end;
     let mut fall = end;
     let mut here = crate::records::slot_index(slots, end - 1);
-    while PART < k {
-        k -= 1;
+    for k in (PART..end).rev() {
         let before = crate::records::slot_index(slots, k - 1);
-        fall = fall_or(here, before, k, fall);
+        if here < before {
+            fall = k;
+        }
         later[k / PART] = fall as u32;
         here = before;
     }
-}
-
-fn wide(x: u32) -> usize
-    ensures { result ≡ x }
-{
-    x as usize
 }
 
 // As first_fall_in: slot by slot to the end of first's part, and then as it is written down.
@@ -77,7 +55,7 @@ fn fall_by_parts(slots: &[u8], later: &[u32], first: u32, count: u32, end: usize
     ensures { result ≡ first_from (falls_in slots.now first count) 0 end }
 {
     let part = first as usize / PART + 1;
-    let edge = least(part * PART, end);
+    let edge = end.min(part * PART);
     let near = first_fall_in(slots, first, count, edge);
     if near < edge {
         return near;
@@ -85,7 +63,7 @@ fn fall_by_parts(slots: &[u8], later: &[u32], first: u32, count: u32, end: usize
     if end <= edge {
         return end;
     }
-    let far = wide(later[part]);
+    let far = later[part] as usize;
     if far < first as usize + count as usize {
         return far;
     }
@@ -97,14 +75,11 @@ fn fall_of_objects(objects: &[u8], slots: &[u8], later: &[u32], end: usize) -> u
     requires { (end ≤ 1048576) × Later slots.now end later.now }
     ensures { result ≡ first_from (falls objects.now slots.now (object_count objects.now)) 0 end }
 {
-    let n = crate::records::object_count(objects);
     let mut best = end;
-    let mut seen = 0;
-    while seen < n {
+    for seen in 0..crate::records::object_count(objects) {
         let object = crate::records::object_of(objects, seen);
         let fall = fall_by_parts(slots, later, object.first, object.count, end);
-        best = least(best, fall);
-        seen += 1;
+        best = best.min(fall);
     }
     best
 }
@@ -117,19 +92,11 @@ fn fall_with(objects: &[u8], slots: &[u8], later: &mut [u32], end: usize) -> usi
     fall_of_objects(objects, slots, later, end)
 }
 
-fn fall_in_few(objects: &[u8], slots: &[u8], end: usize) -> usize
-    requires { (0 < end) × (end ≤ 4096) }
+fn fall_in<const N: usize>(objects: &[u8], slots: &[u8], end: usize) -> usize
+    requires { (0 < end) × (end ≤ N * 256) × (N ≤ 4096) }
     ensures { result ≡ first_from (falls objects.now slots.now (object_count objects.now)) 0 end }
 {
-    let mut later = [0u32; FEW_PARTS];
-    fall_with(objects, slots, &mut later, end)
-}
-
-fn fall_in_many(objects: &[u8], slots: &[u8], end: usize) -> usize
-    requires { (0 < end) × (end ≤ 1048576) }
-    ensures { result ≡ first_from (falls objects.now slots.now (object_count objects.now)) 0 end }
-{
-    let mut later = [0u32; PARTS];
+    let mut later = [0u32; N];
     fall_with(objects, slots, &mut later, end)
 }
 
@@ -143,7 +110,7 @@ pub(crate) fn first_fall(objects: &[u8], slots: &[u8], end: usize) -> usize
         return end;
     }
     if end <= PART * FEW_PARTS {
-        return fall_in_few(objects, slots, end);
+        return fall_in::<FEW_PARTS>(objects, slots, end);
     }
-    fall_in_many(objects, slots, end)
+    fall_in::<PARTS>(objects, slots, end)
 }

@@ -1,5 +1,5 @@
 // Object and slot records, as they lie.
-ghost use Rattle.std.specs.Prelude.{◌≡◌, ◌*◌, ◌<◌, min};
+ghost use Rattle.std.specs.Prelude.{◌≡◌, ◌*◌, min};
 ghost use Rattle.store.specs.Records.{inner_of, value_of, slot_of, object_of, object_count, slot_count};
 
 use crate::{Inner, Object, Repeat, Run, Slot, SlotValue};

@@ -8,7 +8,7 @@ ghost use Rattle.tables.specs.Texts.{op_name, type_name, runtime_name, intrinsic
 ghost use Rattle.tables.specs.Check.{check_names, check_all_names};
 
 use crate::{NAME, NAME_SIZE, OPCODE_NAME, OPCODE_SIZE, TYPE_NAME, TYPE_SIZE};
-use refusal::Check;
+use refusal::{Fault, Refusal};
 
 // Whether the field of w bytes at place at holds this name. A field behind the end is empty.
 pub fn name_is(s: &[u8], at: usize, w: u8, name: &[u8]) -> bool
@@ -80,31 +80,27 @@ pub(crate) fn check_all_names(
     types: &[u8],
     runtime: &[u8],
     intrinsic: &[u8],
-) -> Check
+) -> Result<(), Refusal>
     ensures { result ≡ check_all_names opcodes.now types.now runtime.now intrinsic.now }
 {
-    let rest = refusal::first_refusal(
-        check_names(runtime, NAME_SIZE, NAME),
-        check_names(intrinsic, NAME_SIZE, NAME),
-    );
-    let rest = refusal::first_refusal(check_names(types, TYPE_SIZE, TYPE_NAME), rest);
-    refusal::first_refusal(check_names(opcodes, OPCODE_SIZE, OPCODE_NAME), rest)
+    check_names(opcodes, OPCODE_SIZE, OPCODE_NAME)?;
+    check_names(types, TYPE_SIZE, TYPE_NAME)?;
+    check_names(runtime, NAME_SIZE, NAME)?;
+    check_names(intrinsic, NAME_SIZE, NAME)
 }
 
 // The first of the records whose name, its first w bytes, is bad.
-pub(crate) fn check_names(s: &[u8], size: usize, w: u8) -> Check
+pub(crate) fn check_names(s: &[u8], size: usize, w: u8) -> Result<(), Refusal>
     requires { (0 < size) × (w ≤ size) }
     ensures { result ≡ check_names size w s.now }
 {
     let n = s.len() / size;
-    let mut i = 0;
-    while i < n {
+    for i in 0..n {
         if !name_ok(s, i * size, w) {
-            return refusal::at_record(refusal::BAD_NAME, i, n);
+            return refusal::at_record(Fault::BadName, i, n);
         }
-        i += 1;
     }
-    refusal::at_record(refusal::BAD_NAME, i, n)
+    Ok(())
 }
 
 // Whether the field of w bytes at place at has a good name.
@@ -112,10 +108,7 @@ fn name_ok(s: &[u8], at: usize, w: u8) -> bool
     requires { at + w ≤ length s.now }
     ensures { result ≡ name_ok s.now at w }
 {
-    if is_plain(s, at, w) {
-        return true;
-    }
-    name_then_zeros(s, at, w)
+    is_plain(s, at, w) || name_then_zeros(s, at, w)
 }
 
 // The same, byte by byte.
@@ -125,10 +118,7 @@ fn name_then_zeros(s: &[u8], at: usize, w: u8) -> bool
 {
     let to = at + w as usize;
     let e = name_end(s, at, to);
-    if e <= at {
-        return false;
-    }
-    all_zero(&s[e..to])
+    at < e && all_zero(&s[e..to])
 }
 
 // A field that is told to have a good name by many bytes at a time. Few names that are good are not told so.
@@ -136,13 +126,11 @@ fn is_plain(s: &[u8], at: usize, w: u8) -> bool
     requires { at + w ≤ length s.now }
     ensures { result ≡ true → name_ok s.now at w ≡ true }
 {
-    if w == NAME {
-        return is_plain_64(s, at);
+    match w {
+        NAME => is_plain_64(s, at),
+        OPCODE_NAME => is_plain_40(s, at),
+        _ => false,
     }
-    if w == OPCODE_NAME {
-        return is_plain_40(s, at);
-    }
-    false
 }
 
 // A name of at most 32 bytes, or of more that ends before the field's last byte.
@@ -150,21 +138,11 @@ fn is_plain_64(s: &[u8], at: usize) -> bool
     requires { at + 64 ≤ length s.now }
     ensures { result ≡ true → name_ok s.now at 64 ≡ true }
 {
-    if s[at] == 0 {
-        return false;
-    }
-    if fine_bytes(s, at) != 32 {
-        return false;
-    }
     let from = at + 32;
     let to = at + 64;
-    if all_zero(&s[from..to]) {
-        return true;
-    }
-    if fine_bytes(s, at + 31) != 32 {
-        return false;
-    }
-    s[at + 63] == 0
+    s[at] != 0
+        && fine_bytes(s, at) == 32
+        && (all_zero(&s[from..to]) || fine_bytes(s, at + 31) == 32 && s[at + 63] == 0)
 }
 
 // A name of at most 32 bytes.
@@ -172,15 +150,9 @@ fn is_plain_40(s: &[u8], at: usize) -> bool
     requires { at + 40 ≤ length s.now }
     ensures { result ≡ true → name_ok s.now at 40 ≡ true }
 {
-    if s[at] == 0 {
-        return false;
-    }
-    if fine_bytes(s, at) != 32 {
-        return false;
-    }
     let from = at + 32;
     let to = at + 40;
-    all_zero(&s[from..to])
+    s[at] != 0 && fine_bytes(s, at) == 32 && all_zero(&s[from..to])
 }
 
 // How many of the 32 bytes from place from are fine before the next. The sum has no branch, so that sixteen bytes are added at once.
@@ -189,62 +161,44 @@ fn fine_bytes(s: &[u8], from: usize) -> u8
     ensures { result ≡ 32 → Fine s.now from (from + 32) }
 {
     let mut sum: u8 = 0;
-    let mut i = 0;
-    while i < 32 {
+    for i in 0..32 {
         let k = from + i;
         sum += fine(s[k], s[k + 1]);
-        i += 1;
     }
     sum
 }
 
 // 1 for a byte b that may stand before c: a character of a name, or a zero before a zero.
+#[tactic(auto, unfolding(crate::specs::mirror::Fields::is_fine))]
 fn fine(b: u8, c: u8) -> u8
     ensures { result ≡ (if is_fine b c then 1 else 0) }
 {
-    if is_name(b) {
-        return 1;
-    }
-    if greater(b, c) == 0 { 1 } else { 0 }
-}
-
-fn greater(b: u8, c: u8) -> u8
-    ensures { result ≡ max b c }
-{
-    if b < c { c } else { b }
+    (is_name(b) || b.max(c) == 0) as u8
 }
 
 // A letter, a digit or an underscore. By differences that wrap both cases of a letter are one comparison.
+#[tactic(auto, unfolding(laws::specs::Scan::within))]
 fn is_name(b: u8) -> bool
     ensures { result ≡ is_name b }
 {
-    if std::num::wrapping_sub_u8(b, 97) < 26 {
-        return true;
-    }
-    if std::num::wrapping_sub_u8(b, 65) < 26 {
-        return true;
-    }
-    if std::num::wrapping_sub_u8(b, 48) < 10 {
-        return true;
-    }
-    b == 95
+    b.wrapping_sub(97) < 26 || b.wrapping_sub(65) < 26 || b.wrapping_sub(48) < 10 || b == 95
 }
 
 // The first place from from, below to, whose byte is no part of a name; to where there is none.
 fn name_end(s: &[u8], from: usize, to: usize) -> usize
+    requires { from ≤ to }
     ensures { result ≡ first_from (not_name s.now) from (to - from) }
 {
-    let mut i = from;
-    while i < to {
+    for i in from..to {
         if !is_name(words::byte_at(s, i)) {
             return i;
         }
-        i += 1;
     }
-    i
+    to
 }
 
 // Whether a field has only zeros: eight bytes are tested at once, the last eight once more.
+// The last word overlaps the one before it, which a chain over words would not say more plainly.
 pub(crate) fn all_zero(field: &[u8]) -> bool
     ensures { result ≡ is_named field.now 0 (length field.now) [] }
 {
@@ -263,6 +217,7 @@ pub(crate) fn all_zero(field: &[u8]) -> bool
 }
 
 // Whether a field has the bytes of another: eight are compared at once, the last eight once more.
+// The last word overlaps the one before it, as in `all_zero`.
 fn same_bytes(a: &[u8], b: &[u8]) -> bool
     ensures { result ≡ is_named a.now 0 (length a.now) b.now }
 {
@@ -285,27 +240,23 @@ fn field_is(s: &[u8], at: usize, w: u8, name: &[u8]) -> bool
     requires { at ≤ length s.now }
     ensures { result ≡ is_named s.now at w name.now }
 {
-    let n = w as usize;
-    let mut i = 0;
-    while i < n {
+    for i in 0..w as usize {
         if words::byte_at(s, at + i) != words::byte_at(name, i) {
             return false;
         }
-        i += 1;
     }
     true
 }
 
 // The first place from from, below to, whose byte is zero; to where there is none.
 fn zero_from(s: &[u8], from: usize, to: usize) -> usize
+    requires { from ≤ to }
     ensures { result ≡ first_from (is_zero s.now) from (to - from) }
 {
-    let mut i = from;
-    while i < to {
+    for i in from..to {
         if words::byte_at(s, i) == 0 {
             return i;
         }
-        i += 1;
     }
-    i
+    to
 }

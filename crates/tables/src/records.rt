@@ -1,5 +1,6 @@
 // Opcode and type records: rows 3, 26 and 4, and what is read of them.
-ghost use Rattle.std.specs.Prelude.{◌≡◌, ◌+◌, ◌-◌, ◌*◌, ◌/◌, ◌<◌, ◌≤◌, min, cond, ◌&&◌, length, if◌then◌else◌};
+ghost use Rattle.std.specs.Prelude.{◌≡◌, ◌+◌, ◌-◌, ◌*◌, ◌/◌, ◌<◌, ◌≤◌, ◌==◌, min, cond, ◌&&◌, length, Option, Some, None};
+ghost use Rattle.refusal.specs.declared.Fault.TheVariants as fault;
 ghost use Rattle.laws.specs.Scan.{first_from};
 ghost use Rattle.tables.specs.Records.{opcode_size, old_size, opcode_start, opcode_count, type_count, type_name_size, type_names, fixed_types, operand_count, type_code, width, prefix_op, prefixes_of, has_type_name, name_fits, size_fits, size_good, type_ok, type_fault};
 ghost use Rattle.tables.specs.Records.{zeros, fields_ok, flow_fits, size_as, fault_as};
@@ -8,7 +9,7 @@ ghost use Rattle.tables.specs.mirror.Rows.{rows};
 ghost use Rattle.tables.specs.Check.{first_fault, check_types};
 
 use crate::{FIXED_TYPES, Form, OLD_SIZE, OPCODE_SIZE, Prefixes, TYPE_NAME, TYPE_SIZE};
-use refusal::Check;
+use refusal::{Fault, Refusal};
 
 // The width of an operand of type code t at a scale, at most 8.
 pub fn type_width(types: &[u8], t: u8, scale: u8) -> usize
@@ -16,13 +17,13 @@ pub fn type_width(types: &[u8], t: u8, scale: u8) -> usize
 {
     let at = (t as usize) * TYPE_SIZE;
     if words::byte_at(types, at + 30) != 1 {
-        return at_most_8(scale as usize);
+        return (scale as usize).min(8);
     }
     let size = words::byte_at(types, at + 28) as usize;
     if words::byte_at(types, at + 29) == 1 {
-        at_most_8(size * (scale as usize))
+        (size * (scale as usize)).min(8)
     } else {
-        at_most_8(size)
+        size.min(8)
     }
 }
 
@@ -79,25 +80,22 @@ pub(crate) fn opcode_size(form: Form) -> usize
     }
 }
 
-pub(crate) fn check_opcodes(opcodes: &[u8], types: &[u8], form: Form) -> Check
+pub(crate) fn check_opcodes(opcodes: &[u8], types: &[u8], form: Form) -> Result<(), Refusal>
     ensures { result ≡ first_fault (fault_as form opcodes.now (type_count types.now)) (length opcodes.now / size_as form) }
 {
     let known = types.len() / TYPE_SIZE;
     let size = opcode_size(form);
     let n = opcodes.len() / size;
-    let mut i = 0;
-    while i < n {
-        let fault = opcode_fault(opcodes, i, known, form);
-        if fault != 0 {
-            return refusal::at_record(fault, i, n);
+    for i in 0..n {
+        if let Some(fault) = opcode_fault(opcodes, i, known, form) {
+            return Err(Refusal { fault, place: i });
         }
-        i += 1;
     }
-    Check::Ok
+    Ok(())
 }
 
-// What is wrong with an opcode record, by its number in the table of refusals; known types exist.
-fn opcode_fault(opcodes: &[u8], op: usize, known: usize, form: Form) -> u8
+// What is wrong with an opcode record; known types exist.
+fn opcode_fault(opcodes: &[u8], op: usize, known: usize, form: Form) -> Option<Fault>
     requires { op < length opcodes.now / size_as form }
     ensures { result ≡ fault_as form opcodes.now known op }
 {
@@ -108,73 +106,55 @@ fn opcode_fault(opcodes: &[u8], op: usize, known: usize, form: Form) -> u8
 }
 
 // Of the record at place at: its fields, then zeros.
-fn old_fault(s: &[u8], at: usize, known: usize) -> u8
+#[tactic(auto, using(crate::proofs::Fields::zeros_part))]
+fn old_fault(s: &[u8], at: usize, known: usize) -> Option<Fault>
     requires { at + old_size ≤ length s.now }
-    ensures { result ≡ (if fields_ok s.now at known && zeros s.now (at + 50) (at + old_size) then 0 else 3) }
+    ensures { result ≡ cond (fields_ok s.now at known && zeros s.now (at + 50) (at + old_size)) None (Some fault.BadOpcode) }
 {
-    if !fields_ok(s, at, known) {
-        return refusal::BAD_OPCODE;
-    }
     let from = at + 50;
     let to = at + OLD_SIZE;
-    if crate::names::all_zero(&s[from..to]) {
-        0
+    if fields_ok(s, at, known) && crate::names::all_zero(&s[from..to]) {
+        None
     } else {
-        refusal::BAD_OPCODE
+        Some(Fault::BadOpcode)
     }
 }
 
 // Its fields, its flow, zeros; the flow is judged last.
-fn new_fault(s: &[u8], at: usize, known: usize) -> u8
+#[tactic(auto, using(crate::proofs::Fields::zeros_part))]
+fn new_fault(s: &[u8], at: usize, known: usize) -> Option<Fault>
     requires { at + opcode_size ≤ length s.now }
     ensures { result ≡ cond (fields_ok s.now at known && zeros s.now (at + 54) (at + opcode_size))
-        (if flow_fits s.now at then 0 else 26) 3 }
+        (cond (flow_fits s.now at) None (Some fault.BadFlow)) (Some fault.BadOpcode) }
 {
-    if !fields_ok(s, at, known) {
-        return refusal::BAD_OPCODE;
-    }
     let from = at + 54;
     let to = at + OPCODE_SIZE;
-    if !crate::names::all_zero(&s[from..to]) {
-        return refusal::BAD_OPCODE;
-    }
-    if flow_fits(s, at) {
-        0
+    if !(fields_ok(s, at, known) && crate::names::all_zero(&s[from..to])) {
+        Some(Fault::BadOpcode)
+    } else if flow_fits(s, at) {
+        None
     } else {
-        refusal::BAD_FLOW
+        Some(Fault::BadFlow)
     }
 }
 
 // Whether each of the four bytes of the flow is one that there is.
+#[tactic(auto, unfolding(crate::specs::Records::flow_fits))]
 fn flow_fits(s: &[u8], at: usize) -> bool
     requires { at + 54 ≤ length s.now }
     ensures { result ≡ flow_fits s.now at }
 {
-    if s[at + 50] > 5 {
-        return false;
-    }
-    if s[at + 51] > 1 {
-        return false;
-    }
-    if s[at + 52] > 7 {
-        return false;
-    }
-    s[at + 53] <= 1
+    s[at + 50] <= 5 && s[at + 51] <= 1 && s[at + 52] <= 7 && s[at + 53] <= 1
 }
 
 // Whether the mark, the count and the codes of the record at place at are good; known types exist.
+#[tactic(auto, using(crate::proofs::Fields::codes_zeros), unfolding(crate::specs::Records::fields_ok))]
 fn fields_ok(s: &[u8], at: usize, known: usize) -> bool
     requires { at + 50 ≤ length s.now }
     ensures { result ≡ fields_ok s.now at known }
 {
-    if s[at + 40] > 2 {
-        return false;
-    }
     let count = s[at + 41];
-    if count > 8 {
-        return false;
-    }
-    codes_fit(s, at + 42, count, known)
+    s[at + 40] <= 2 && count <= 8 && codes_fit(s, at + 42, count, known)
 }
 
 // Whether the first count of the eight codes at place at are types' numbers and the others 0; the codes are read as one number.
@@ -184,13 +164,11 @@ fn codes_fit(s: &[u8], at: usize, count: u8, known: usize) -> bool
 {
     let to = at + 8;
     let mut rest = words::u64_at(&s[at..to], 0);
-    let mut k = 0;
-    while k < count {
+    for k in 0..count {
         if known <= (rest % 256) as usize {
             return false;
         }
-        rest = rest / 256;
-        k += 1;
+        rest /= 256;
     }
     rest == 0
 }
@@ -199,32 +177,18 @@ fn codes_fit(s: &[u8], at: usize, count: u8, known: usize) -> bool
 fn prefix_op(opcodes: &[u8], mark: u8) -> u16
     ensures { result ≡ prefix_op opcodes.now mark }
 {
-    let n = at_most_256(opcodes.len() / OPCODE_SIZE);
-    let mut i: u16 = 0;
-    while i < n {
-        if words::byte_at(opcodes, (i as usize) * OPCODE_SIZE + 40) == mark {
-            return i;
+    let n = opcode_count(opcodes).min(256) as u16;
+    for op in 0..n {
+        if words::byte_at(opcodes, (op as usize) * OPCODE_SIZE + 40) == mark {
+            return op;
         }
-        i += 1;
     }
     256
 }
 
-fn at_most_256(n: usize) -> u16
-    ensures { result ≡ min n 256 }
-{
-    if n < 256 { n as u16 } else { 256 }
-}
-
-fn at_most_8(n: usize) -> usize
-    ensures { result ≡ min n 8 }
-{
-    if n < 8 { n } else { 8 }
-}
-
 // Type records: row 4.
 
-pub(crate) fn check_types(types: &[u8]) -> Check
+pub(crate) fn check_types(types: &[u8]) -> Result<(), Refusal>
     ensures { result ≡ check_types (type_fault types.now) types.now }
 {
     check_type_records(types, &TYPE_NAMES)
@@ -250,31 +214,28 @@ const TYPE_NAMES: [u8; 476] = *b"\
     RuntimeId\0\0\0\0\0\0\0\0\0\0\0\0\0\0\0\0\0\0\0\
     IntrinsicId\0\0\0\0\0\0\0\0\0\0\0\0\0\0\0\0\0";
 
-fn check_type_records(types: &[u8], names: &[u8]) -> Check
+fn check_type_records(types: &[u8], names: &[u8]) -> Result<(), Refusal>
     requires { names.now ≡ rows type_name_size type_names }
     ensures { result ≡ check_types (type_fault types.now) types.now }
 {
     let n = types.len() / TYPE_SIZE;
-    let mut i = 0;
-    while i < n {
-        let fault = type_fault(types, i, names);
-        if fault != 0 {
-            return refusal::at_record(fault, i, n);
+    for i in 0..n {
+        if let Some(fault) = type_fault(types, i, names) {
+            return Err(Refusal { fault, place: i });
         }
-        i += 1;
     }
-    Check::Ok
+    Ok(())
 }
 
-// What is wrong with type record t, by 01's number.
-fn type_fault(types: &[u8], t: usize, names: &[u8]) -> u8
+// What is wrong with type record t.
+fn type_fault(types: &[u8], t: usize, names: &[u8]) -> Option<Fault>
     requires { (t < type_count types.now) × (names.now ≡ rows type_name_size type_names) }
     ensures { result ≡ type_fault types.now t }
 {
     if type_ok(types, t, names) {
-        0
+        None
     } else {
-        refusal::BAD_TYPE
+        Some(Fault::BadType)
     }
 }
 
@@ -286,38 +247,32 @@ fn type_ok(types: &[u8], t: usize, names: &[u8]) -> bool
     let at = t * TYPE_SIZE;
     let size = words::byte_at(types, at + 28);
     let scalable = words::byte_at(types, at + 29);
-    if !size_fits(size, scalable, words::byte_at(types, at + 30)) {
-        return false;
-    }
-    if words::byte_at(types, at + 31) != 0 {
-        return false;
-    }
-    name_fits(types, t, names)
+    size_fits(size, scalable, words::byte_at(types, at + 30))
+        && words::byte_at(types, at + 31) == 0
+        && name_fits(types, t, names)
 }
 
 // Whether a size, scalable and present byte go together.
+#[tactic(auto, unfolding(crate::specs::Records::size_fits))]
 fn size_fits(size: u8, scalable: u8, present: u8) -> bool
     ensures { result ≡ size_fits size scalable present }
 {
-    if present == 0 {
-        if size == 0 { scalable == 0 } else { false }
-    } else if present == 1 {
-        size_good(size, scalable)
-    } else {
-        false
+    match present {
+        0 => size == 0 && scalable == 0,
+        1 => size_good(size, scalable),
+        _ => false,
     }
 }
 
+#[tactic(auto, unfolding(crate::specs::Records::size_good))]
 fn size_good(size: u8, scalable: u8) -> bool
     ensures { result ≡ size_good size scalable }
 {
-    if size == 4 {
-        return scalable == 0;
+    match size {
+        4 => scalable == 0,
+        1 | 2 => scalable <= 1,
+        _ => false,
     }
-    if size == 1 {
-        return scalable <= 1;
-    }
-    if size == 2 { scalable <= 1 } else { false }
 }
 
 // Whether type record t has its own name of the 17, or, behind them, none of these.
@@ -329,23 +284,21 @@ fn name_fits(types: &[u8], t: usize, names: &[u8]) -> bool
     if t < FIXED_TYPES {
         has_type_name(types, at, names, t)
     } else {
-        type_name_of(types, at, names) == FIXED_TYPES
+        has_other_name(types, at, names)
     }
 }
 
-// The first of the 17 names that the type record at place at has; 17 where it has none.
-fn type_name_of(types: &[u8], at: usize, names: &[u8]) -> usize
+// Whether the type record at place at has none of the 17 names.
+fn has_other_name(types: &[u8], at: usize, names: &[u8]) -> bool
     requires { names.now ≡ rows type_name_size type_names }
-    ensures { result ≡ first_from (has_type_name types.now at) 0 fixed_types }
+    ensures { result ≡ (first_from (has_type_name types.now at) 0 fixed_types == fixed_types) }
 {
-    let mut k = 0;
-    while k < FIXED_TYPES {
+    for k in 0..FIXED_TYPES {
         if has_type_name(types, at, names, k) {
-            return k;
+            return false;
         }
-        k += 1;
     }
-    k
+    true
 }
 
 // Whether the type record at place at has name k of the 17, which is row k of the names.

@@ -1,4 +1,3 @@
-pub mod Cases
 pub mod Laws
 pub mod Unprefixed
 pub mod V8

@@ -15,13 +15,9 @@ use Rattle.decoder.specs.V8.{OperandType, Bytecodes, type_info, is_unsigned, is_
 use Rattle.decoder.specs.V8.OperandType.{k_idx, k_u_imm, k_imm, k_reg}
 use Rattle.decoder.specs.Form.{code_of, V8Form, shown_operand, shown_from}
 use Rattle.decoder.proofs.V8.{wrap_fits, operand_int, v8_decoding}
+use Rattle.std.specs.Prelude.{Option, Some, None, Ok}
 use Rattle.serializer.specs.declared.Elem.{Elem}
-use Rattle.targets.specs.declared.Index.TheVariants as index
-use Rattle.targets.specs.declared.Number.TheVariants as number
-use Rattle.targets.specs.declared.Target.TheVariants as target
 use Rattle.targets.specs.declared.Entries.{Entries}
-use Rattle.targets.specs.declared.Table.TheVariants as table
-use Rattle.targets.specs.declared.Entry.TheVariants as entry
 use Rattle.targets.specs.Targets.{operand_of, here, index_of, number_of, smi_of, distance_by, target_from, jump_target, sized_by, table_by, jump_table, entry_at}
 use Rattle.targets.specs.V8.{Jump, Switch, ConstantPool, TargetOffset, get_absolute_offset, get_jump_target_offset, offsets_from, get_jump_table_target_offsets}
 use Rattle.targets.specs.V8.Jump.{jump_loop, jump_immediate, jump_constant}
@@ -53,26 +49,26 @@ away_same : (offset prefix : ℕ) (r : ℤ) → Offset (pos offset +ℤ r +ℤ p
 away_same offset prefix r h = rw (sum_same offset prefix r) (target_same (pos offset +ℤ r +ℤ pos prefix) h)
 
 -- what operands say
-index_of_lem : {op : Operand} {v : ℕ} → op ≡ Idx v → index_of op ≡ index.Is v
+index_of_lem : {op : Operand} {v : ℕ} → op ≡ Idx v → index_of op ≡ Some v
 unfolding index_of
 index_of_lem f = rw f
 
-number_of_lem : {op : Operand} {v : ℕ} → op ≡ Idx v → number_of op ≡ number.Is (pos v)
+number_of_lem : {op : Operand} {v : ℕ} → op ≡ Idx v → number_of op ≡ Some (pos v)
 unfolding number_of
 number_of_lem f = rw f
 
-base_of_lem : {op : Operand} {c : ℤ} → op ≡ Imm c → number_of op ≡ number.Is c
+base_of_lem : {op : Operand} {c : ℤ} → op ≡ Imm c → number_of op ≡ Some c
 unfolding number_of
 base_of_lem f = rw f
 
 -- ---- one instruction, whose distances count from offset + prefix and whose operands hold the numbers z
-module _ (el : ℕ → Elem) (pool : ConstantPool) (same : SamePool el pool) (offset prefix : ℕ) (z : ℕ → OperandType → ℤ) (i : Instr) (from : here i ≡ offset + prefix) where
+module _ (el : ℕ → Option Elem) (pool : ConstantPool) (same : SamePool el pool) (offset prefix : ℕ) (z : ℕ → OperandType → ℤ) (i : Instr) (from : here i ≡ offset + prefix) where
   abbrev Jumps : Jump → Bool → Type 0
-  Jumps j c = jump_target el (jump_flow j c) i ≡ target.At (nat_abs (get_jump_target_offset offset prefix z pool j))
+  Jumps j c = jump_target el (jump_flow j c) i ≡ Some (nat_abs (get_jump_target_offset offset prefix z pool j))
 
   -- a distance from here
-  from_here : (r : ℤ) → Offset (get_absolute_offset offset prefix z pool r) → target_from (here i) (number.Is r) ≡ target.At (nat_abs (get_absolute_offset offset prefix z pool r))
-  from_here r s = rw from (ap target.At (away_same offset prefix r s))
+  from_here : (r : ℤ) → Offset (get_absolute_offset offset prefix z pool r) → target_from (here i) (Some r) ≡ Some (nat_abs (get_absolute_offset offset prefix z pool r))
+  from_here r s = rw from (ap Some (away_same offset prefix r s))
 
   near : (v : ℕ) → z 0 k_u_imm ≡ pos v → Int (z 0 k_u_imm) → to_int (z 0 k_u_imm) ≡ pos v
   near v u h = rw u (to_int_same v (rw u at h))
@@ -91,10 +87,10 @@ module _ (el : ℕ → Elem) (pool : ConstantPool) (same : SamePool el pool) (of
     unfolding jump_target distance_by
     constant c u h s = go c
       where
-        smi : smi_of (el v) ≡ number.Is (pool.as_smi (nat_abs (z 0 k_idx)))
+        smi : smi_of (el v) ≡ Some (pool.as_smi (nat_abs (z 0 k_idx)))
         smi =
-            same v ∙ ap (λ (x : ℤ). cond (pool.is_smi (nat_abs x)) (number.Is (pool.as_smi (nat_abs x))) number.Nothing) (sym u)
-            ∙ ap (λ (x : Bool). cond x (number.Is (pool.as_smi (nat_abs (z 0 k_idx)))) number.Nothing) h
+            same v ∙ ap (λ (x : ℤ). cond (pool.is_smi (nat_abs x)) (Some (pool.as_smi (nat_abs x))) None) (sym u)
+            ∙ ap (λ (x : Bool). cond x (Some (pool.as_smi (nat_abs (z 0 k_idx)))) None) h
 
         go : (c : Bool) → Jumps jump_constant c
         go true = rw (index_of_lem f) (ap (target_from (here i)) smi ∙ from_here (pool.as_smi (nat_abs (z 0 k_idx))) s)
@@ -103,11 +99,11 @@ module _ (el : ℕ → Elem) (pool : ConstantPool) (same : SamePool el pool) (of
   -- entries of a table with case values from base on
   module _ (e : Entries) (base : ℤ) (b : e.base ≡ wrap32 base) where
     shown_entry : (k : ℕ) → pool.is_smi (e.start + k) ≡ true → Int (base +ℤ pos k) → Offset (get_absolute_offset offset prefix z pool (pool.as_smi (e.start + k)))
-        → entry_at el (here i) e k ≡ entry.Shown (base +ℤ pos k) (nat_abs (get_absolute_offset offset prefix z pool (pool.as_smi (e.start + k))))
+        → entry_at el (here i) e k ≡ Some (record { case = base +ℤ pos k; target = nat_abs (get_absolute_offset offset prefix z pool (pool.as_smi (e.start + k))) })
     unfolding entry_at
     shown_entry k t c s = rw (same (e.start + k), t, from, b, wrap_add_wrap base (pos k), wrap_same (base +ℤ pos k) c, away_same offset prefix (pool.as_smi (e.start + k)) s)
 
-    skipped_entry : (k : ℕ) → pool.is_smi (e.start + k) ≡ false → entry_at el (here i) e k ≡ entry.Skipped
+    skipped_entry : (k : ℕ) → pool.is_smi (e.start + k) ≡ false → entry_at el (here i) e k ≡ None
     unfolding entry_at
     skipped_entry k t = rw (same (e.start + k), t)
 
@@ -126,7 +122,7 @@ module _ (el : ℕ → Elem) (pool : ConstantPool) (same : SamePool el pool) (of
         go : (t : Bool) → pool.is_smi place ≡ t → Held (cond t (one ∷ rest) rest) → (Held rest → shown_entries el (here i) e (k + 1) n ≡ v8_entries rest)
             → shown_of (entry_at el (here i) e k) (shown_entries el (here i) e (k + 1) n) ≡ v8_entries (cond t (one ∷ rest) rest)
         go true t h more =
-            let s : entry_at el (here i) e k ≡ entry.Shown index (nat_abs (get_absolute_offset offset prefix z pool (pool.as_smi place))) =
+            let s : entry_at el (here i) e k ≡ Some (record { case = index; target = nat_abs (get_absolute_offset offset prefix z pool (pool.as_smi place)) }) =
             rw (p, q) (shown_entry k (rw p at t) (rw q at h.0) (rw p at h.1)) in
             rw (s, more h.2)
         go false t h more = rw (skipped_entry k (rw p at t)) (more h)
@@ -134,12 +130,12 @@ module _ (el : ℕ → Elem) (pool : ConstantPool) (same : SamePool el pool) (of
 -- the table of a switch, at any scale
 module _ (i : Instr) (start n : ℕ) (few : n ≤ 4096) where
   smi_table : (c : ℤ) → wrap32 c ≡ c → operand_of i 0 ≡ Idx start → operand_of i 1 ≡ Idx n → operand_of i 2 ≡ Imm c
-      → jump_table true (switch_flow switch_on_smi_no_feedback) i ≡ table.At (record { start = start; count = n; base = c })
+      → jump_table true (switch_flow switch_on_smi_no_feedback) i ≡ Ok (Some (record { start = start; count = n; base = c }))
   unfolding jump_table table_by sized_by index_of operand_of
   smi_table c w f g k = rw (index_of_lem f, number_of_lem g, base_of_lem k, le-leb n 4096 few, w)
 
   generator_table : operand_of i 1 ≡ Idx start → operand_of i 2 ≡ Idx n
-      → jump_table true (switch_flow switch_on_generator_state) i ≡ table.At (record { start = start; count = n; base = pos 0 })
+      → jump_table true (switch_flow switch_on_generator_state) i ≡ Ok (Some (record { start = start; count = n; base = pos 0 }))
   unfolding jump_table table_by sized_by wrap32 modulo index_of operand_of
   generator_table f g = rw (index_of_lem f, number_of_lem g, le-leb n 4096 few)
 
@@ -165,7 +161,7 @@ size_one (t ∷ ts) scale = omega (arith, size_one ts scale)
 module _ (b : Bytecodes) (code : List ℕ) (ops : Opcodes) (types : List ℕ) (rfs : ℤ) (offset : ℕ) (bytes : Bytes code)
     (fits : next_offset b code offset ≤ length code)
     (form : V8Form b ops types (get_or code offset 0) (current_bytecode b code offset)) (held : length code ≤ 2 ^ 31)
-    (el : ℕ → Elem) (pool : ConstantPool) (same : SamePool el pool) where
+    (el : ℕ → Option Elem) (pool : ConstantPool) (same : SamePool el pool) where
   abbrev instr : Instr
   instr = (decodes code ops types rfs offset).instr
 
@@ -201,7 +197,7 @@ module _ (b : Bytecodes) (code : List ℕ) (ops : Opcodes) (types : List ℕ) (r
 
   -- a jump goes where V8's does
   pub v8_jump : (j : Jump) (conditional : Bool) (ts : List OperandType) → current_types b code offset ≡ jump_types j ++ ts → Distance z pool j
-      → Offset (get_jump_target_offset offset prefix z pool j) → jump_target el (jump_flow j conditional) instr ≡ target.At (nat_abs (get_jump_target_offset offset prefix z pool j))
+      → Offset (get_jump_target_offset offset prefix z pool j) → jump_target el (jump_flow j conditional) instr ≡ Some (nat_abs (get_jump_target_offset offset prefix z pool j))
   unfolding shown_operand code_of type_info is_unsigned
   v8_jump jump_immediate c ts e h s =
       let us = k_u_imm ∷ ts in
@@ -219,7 +215,7 @@ module _ (b : Bytecodes) (code : List ℕ) (ops : Opcodes) (types : List ℕ) (r
   -- a switch, under a prefix or not, has V8's table, and shows V8's entries
   pub v8_switch : (s : Switch) (ts : List OperandType) → current_types b code offset ≡ switch_types s ++ ts → (v8_table z s).count ≤ 4096
       → Held (get_jump_table_target_offsets offset prefix z pool s)
-      → (jump_table true (switch_flow s) instr ≡ table.At (v8_table z s))
+      → (jump_table true (switch_flow s) instr ≡ Ok (Some (v8_table z s)))
       × (shown_entries el (here instr) (v8_table z s) 0 (v8_table z s).count ≡ v8_entries (get_jump_table_target_offsets offset prefix z pool s))
   unfolding shown_operand code_of type_info is_unsigned wrap32 modulo
   v8_switch switch_on_generator_state ts e few h =

@@ -6,11 +6,9 @@ use Rattle.decoder.specs.declared.Instr.{Instr}
 use Rattle.decoder.specs.Decode.{instr_of}
 use Rattle.decoder.specs.V8.{Bytecodes, type_info, is_scalable, is_unsigned, unscaled_size, prefix_size, get_operand}
 use Rattle.decoder.specs.V8.OperandType.{k_idx, k_u_imm, k_imm}
+use Rattle.std.specs.Prelude.{Some, None, Ok}
 use Rattle.serializer.specs.declared.Elem.TheVariants as elem
-use Rattle.targets.specs.declared.Target.TheVariants as target
 use Rattle.targets.specs.declared.Entries.{Entries}
-use Rattle.targets.specs.declared.Table.TheVariants as table
-use Rattle.targets.specs.declared.Entry.TheVariants as entry
 use Rattle.targets.specs.Targets.{operand_of, here, index_of, number_of, distance_by, jump_target, sized_by, table_by, jump_table, entry_at}
 use Rattle.targets.specs.V8.{Jump, ConstantPool, get_jump_target_offset, get_jump_table_target_offsets}
 use Rattle.targets.specs.V8.Jump.{jump_loop, jump_immediate}
@@ -37,13 +35,13 @@ target_of_lem code j = get_jump_target_offset 0 (prefix_size v8 code 0) (get_ope
 
 -- `07 03 00`: V8's target is below zero, ours is kept modulo 2 ^ 64
 loop_parts : (target_of_lem (0x07 ∷ 0x03 ∷ 0x00 ∷ []) jump_loop ≡ negsuc 2)
-    × (jump_target (λ n. elem.Nothing) (jump_flow jump_loop false) (instr_of 0 7 1 3 (Idx 3 ∷ Imm (pos 0) ∷ [])) ≡ target.At 18446744073709551613)
+    × (jump_target (λ n. None) (jump_flow jump_loop false) (instr_of 0 7 1 3 (Idx 3 ∷ Imm (pos 0) ∷ [])) ≡ Some 18446744073709551613)
 unfolding type_info is_scalable is_unsigned unscaled_size jump_target distance_by number_of operand_of modulo
 loop_parts = (refl, refl)
 
 -- `01 05 00 00 00 80`: V8's int holds no distance of 2 ^ 31
 far_parts : (target_of_lem (0x01 ∷ 0x05 ∷ 0x00 ∷ 0x00 ∷ 0x00 ∷ 0x80 ∷ []) jump_immediate ≡ negsuc 2147483646)
-    × (jump_target (λ n. elem.Nothing) (jump_flow jump_immediate false) (instr_of 0 5 4 6 (Idx 2147483648 ∷ [])) ≡ target.At 2147483649)
+    × (jump_target (λ n. None) (jump_flow jump_immediate false) (instr_of 0 5 4 6 (Idx 2147483648 ∷ [])) ≡ Some 2147483649)
 unfolding type_info is_scalable is_unsigned unscaled_size jump_target distance_by number_of operand_of modulo
 far_parts = (refl, refl)
 
@@ -58,7 +56,7 @@ abbrev wide_table : Entries
 wide_table = record { start = 0; count = 1; base = pos 5 }
 
 switch_same : (get_jump_table_target_offsets 0 (prefix_size v8 wide_switch_lem 0) (get_operand v8 wide_switch_lem 0) pool switch_on_smi_no_feedback ≡ record { case_value = pos 5; target_offset = pos 5 } ∷ [])
-    × (jump_table true (switch_flow switch_on_smi_no_feedback) wide_instr ≡ table.At wide_table)
-    × (entry_at (λ n. elem.Smi (pos 4)) (here wide_instr) wide_table 0 ≡ entry.Shown (pos 5) 5)
+    × (jump_table true (switch_flow switch_on_smi_no_feedback) wide_instr ≡ Ok (Some wide_table))
+    × (entry_at (λ n. Some (elem.Smi (pos 4))) (here wide_instr) wide_table 0 ≡ Some (record { case = (pos 5); target = 5 }))
 unfolding type_info is_scalable is_unsigned unscaled_size jump_table table_by sized_by index_of number_of operand_of entry_at wrap32 modulo
 switch_same = (refl, refl, refl)

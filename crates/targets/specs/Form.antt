@@ -6,19 +6,18 @@ use Rattle.decoder.specs.V8.OperandType.{k_idx, k_u_imm, k_imm, k_reg}
 use Rattle.flow.specs.Flow.{plain}
 use Rattle.flow.specs.declared.Kind.TheVariants as kind
 use Rattle.flow.specs.declared.Flow.{Flow}
+use Rattle.std.specs.Prelude.{Option, Some, None}
+use Rattle.targets.specs.declared.Case.{Case}
 use Rattle.serializer.specs.declared.Elem.{Elem}
-use Rattle.targets.specs.declared.Number.TheVariants as number
 use Rattle.targets.specs.declared.Entries.{Entries}
-use Rattle.targets.specs.declared.Entry.{Entry}
-use Rattle.targets.specs.declared.Entry.TheVariants as entry
 use Rattle.targets.specs.Targets.{smi_of, entry_at}
 use Rattle.targets.specs.V8.{Jump, Switch, ConstantPool, TargetOffset}
 use Rattle.targets.specs.V8.Jump.{jump_loop, jump_immediate, jump_constant}
 use Rattle.targets.specs.V8.Switch.{switch_on_generator_state, switch_on_smi_no_feedback}
 
 -- our pool is V8's: small integers stand where Smis do
-abbrev pub SamePool : (ℕ → Elem) → ConstantPool → Type 0
-SamePool el pool = (n : ℕ) → smi_of (el n) ≡ cond (pool.is_smi n) (number.Is (pool.as_smi n)) number.Nothing
+abbrev pub SamePool : (ℕ → Option Elem) → ConstantPool → Type 0
+SamePool el pool = (n : ℕ) → smi_of (el n) ≡ cond (pool.is_smi n) (Some (pool.as_smi n)) None
 
 -- the flow of a jump; the Bool says whether it is conditional
 abbrev pub jump_flow : Jump → Bool → Flow
@@ -66,15 +65,15 @@ Held [] = Unit {0}
 Held (o ∷ os) = Int o.case_value × Offset o.target_offset × Held os
 
 -- V8's entries as ours
-abbrev pub v8_entries : List TargetOffset → List Entry
+abbrev pub v8_entries : List TargetOffset → List (Option Case)
 v8_entries [] = []
-v8_entries (o ∷ os) = entry.Shown o.case_value (unsigned_abs o.target_offset) ∷ v8_entries os
+v8_entries (o ∷ os) = Some (record { case = o.case_value; target = unsigned_abs o.target_offset }) ∷ v8_entries os
 
 -- the entries shown of entries k to k + n - 1, whose distances count from place at
-abbrev pub shown_of : Entry → List Entry → List Entry
-shown_of (entry.Shown c t) rest = entry.Shown c t ∷ rest
-shown_of entry.Skipped rest = rest
+abbrev pub shown_of : Option Case → List (Option Case) → List (Option Case)
+shown_of (Some c) rest = Some c ∷ rest
+shown_of None rest = rest
 
-abbrev pub shown_entries : (ℕ → Elem) → ℕ → Entries → ℕ → ℕ → List Entry
+abbrev pub shown_entries : (ℕ → Option Elem) → ℕ → Entries → ℕ → ℕ → List (Option Case)
 shown_entries el at e k zero = []
 shown_entries el at e k (suc n) = shown_of (entry_at el at e k) (shown_entries el at e (k + 1) n)

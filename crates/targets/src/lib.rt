@@ -2,8 +2,7 @@
 #![tactic(auto)]
 
 ghost use Rattle.std.specs.Prelude.{◌≡◌, ◌+◌};
-ghost use Rattle.targets.specs.declared.Number.TheVariants as number;
-ghost use Rattle.targets.specs.Targets.{found, operand_of, here, index_of, number_of, target_by, jump_target, is_switch, base_of, sized_by, table_by, jump_table, entry_at};
+ghost use Rattle.targets.specs.Targets.{found, operand_of, here, index_of, number_of, target_by, jump_target, is_switch, base_of, table_by, jump_table, entry_at};
 ghost use Rattle.targets.specs.mirror.Jumps.{is_jump};
 ghost use Rattle.targets.specs.mirror.Search.{pool_searched, PoolBlocked};
 
@@ -19,32 +18,6 @@ pub struct PoolSlots {
     pub count: u32,
 }
 
-#[derive(Clone, Copy)]
-pub enum Pool {
-    At(PoolSlots),
-    Nothing,
-}
-
-// An index operand.
-#[derive(Clone, Copy)]
-pub enum Index {
-    Is(u32),
-    Nothing,
-}
-
-// A number, where there is one.
-#[derive(Clone, Copy)]
-pub enum Number {
-    Is(i64),
-    Nothing,
-}
-
-#[derive(Clone, Copy)]
-pub enum Target {
-    At(u64),
-    Nothing,
-}
-
 // The entries of a switch: the pool elements from start on, with case numbers from base on.
 #[derive(Clone, Copy)]
 pub struct Entries {
@@ -53,32 +26,35 @@ pub struct Entries {
     pub base: i32,
 }
 
-#[derive(Clone, Copy)]
-pub enum Table {
-    Nothing,
-    At(Entries),
-    // Number 16.
-    Refused,
-}
+// 16: a switch of fewer than 0 entries, or of more than 4,096.
+#[derive(Clone, Copy, Debug, PartialEq, Eq)]
+pub struct BadSwitch;
 
+// An entry of a switch that is shown: its case number, and where it goes.
 #[derive(Clone, Copy)]
-pub enum Entry {
-    Shown { case: i32, target: u64 },
-    Skipped,
+pub struct Case {
+    pub case: i32,
+    pub target: u64,
 }
 
 // The summary of the pool's slots that the `_in` calls take: made once where many elements are sought.
-pub fn pool_blocks(slots: &[u8], ts: u8, pool: Pool) -> [u32; 4096]
+pub fn pool_blocks(slots: &[u8], ts: u8, pool: Option<PoolSlots>) -> [u32; 4096]
     ensures { PoolBlocked slots.now ts pool result }
 {
     match pool {
-        Pool::At(p) => serializer::elem_blocks(slots, p.first, p.count, ts),
-        Pool::Nothing => [0u32; 4096],
+        Some(p) => serializer::elem_blocks(slots, p.first, p.count, ts),
+        None => [0u32; 4096],
     }
 }
 
 // Element n of the pool.
-pub fn pool_elem(slots: &[u8], payload: &[u8], ts: u8, pool: Pool, n: u64) -> Elem
+pub fn pool_elem(
+    slots: &[u8],
+    payload: &[u8],
+    ts: u8,
+    pool: Option<PoolSlots>,
+    n: u64,
+) -> Option<Elem>
     ensures { result ≡ pool_searched slots.now payload.now ts pool n }
 {
     let none = [0u32; 1];
@@ -91,18 +67,14 @@ pub fn pool_elem_in(
     payload: &[u8],
     blocks: &[u32],
     ts: u8,
-    pool: Pool,
+    pool: Option<PoolSlots>,
     n: u64,
-) -> Elem
+) -> Option<Elem>
     ensures { PoolBlocked slots.now ts pool blocks.now
         → result ≡ pool_searched slots.now payload.now ts pool n }
 {
-    match pool {
-        Pool::At(p) => {
-            serializer::array_elem_in(slots, payload, blocks, p.first, p.count, ts, n)
-        }
-        Pool::Nothing => Elem::Nothing,
-    }
+    let p = pool?;
+    serializer::array_elem_in(slots, payload, blocks, p.first, p.count, ts, n)
 }
 
 // The target of a jump.
@@ -110,10 +82,10 @@ pub fn jump_target_unchecked(
     slots: &[u8],
     payload: &[u8],
     ts: u8,
-    pool: Pool,
+    pool: Option<PoolSlots>,
     flow: Flow,
     instr: Instr,
-) -> Target
+) -> Option<u64>
     ensures { result ≡ jump_target (pool_searched slots.now payload.now ts pool) flow instr }
 {
     let none = [0u32; 1];
@@ -127,46 +99,43 @@ pub fn jump_target_in(
     payload: &[u8],
     blocks: &[u32],
     ts: u8,
-    pool: Pool,
+    pool: Option<PoolSlots>,
     flow: Flow,
     instr: Instr,
-) -> Target
+) -> Option<u64>
     ensures { PoolBlocked slots.now ts pool blocks.now
         → result ≡ jump_target (pool_searched slots.now payload.now ts pool) flow instr }
 {
     let kind = flow.kind;
     if !is_jump(kind) {
-        return Target::Nothing;
+        return None;
     }
     let op = operand_of(instr, flow.first);
     if !flow.pool {
-        let Number::Is(d) = number_of(op) else {
-            return Target::Nothing;
-        };
-        return target_by(kind, here(instr), d);
+        return target_by(kind, here(instr), number_of(op)?);
     }
-    let Operand::Idx(v) = op else {
-        return Target::Nothing;
-    };
-    let Pool::At(p) = pool else {
-        return Target::Nothing;
-    };
-    let Elem::Smi(d) = serializer::array_elem_in(
-        slots, payload, blocks, p.first, p.count, ts, v as u64,
+    let n = index_of(op)? as u64;
+    let p = pool?;
+    let Some(Elem::Smi(d)) = serializer::array_elem_in(
+        slots, payload, blocks, p.first, p.count, ts, n,
     ) else {
-        return Target::Nothing;
+        return None;
     };
     target_by(kind, here(instr), d)
 }
 
 // The table of a switch, with a prefix or without.
 #[tactic(auto, unfolding(crate::specs::Targets::jump_table))]
-pub fn jump_table_unchecked(pool: Pool, flow: Flow, instr: Instr) -> Table
+pub fn jump_table_unchecked(
+    pool: Option<PoolSlots>,
+    flow: Flow,
+    instr: Instr,
+) -> Result<Option<Entries>, BadSwitch>
     ensures { result ≡ jump_table (found pool) flow instr }
 {
     let kind = flow.kind;
     if !is_switch(kind) {
-        return Table::Nothing;
+        return Ok(None);
     }
     let first = flow.first;
     let start = index_of(operand_of(instr, first));
@@ -181,11 +150,11 @@ pub fn jump_entry_unchecked(
     slots: &[u8],
     payload: &[u8],
     ts: u8,
-    pool: Pool,
+    pool: Option<PoolSlots>,
     at: u64,
     e: Entries,
     k: u16,
-) -> Entry
+) -> Option<Case>
     ensures { result ≡ entry_at (pool_searched slots.now payload.now ts pool) at e k }
 {
     let none = [0u32; 1];
@@ -198,33 +167,30 @@ pub fn jump_entry_in(
     payload: &[u8],
     blocks: &[u32],
     ts: u8,
-    pool: Pool,
+    pool: Option<PoolSlots>,
     at: u64,
     e: Entries,
     k: u16,
-) -> Entry
+) -> Option<Case>
     ensures { PoolBlocked slots.now ts pool blocks.now
         → result ≡ entry_at (pool_searched slots.now payload.now ts pool) at e k }
 {
     let n = e.start as u64 + k as u64;
-    let Elem::Smi(v) = pool_elem_in(slots, payload, blocks, ts, pool, n) else {
-        return Entry::Skipped;
+    let Some(Elem::Smi(v)) = pool_elem_in(slots, payload, blocks, ts, pool, n) else {
+        return None;
     };
-    Entry::Shown {
+    Some(Case {
         case: words::wrapping_add_i32(e.base, words::signed32(k as u32)),
         target: words::target_after(at, v),
-    }
+    })
 }
 
 // Where an instruction's distances count from: its opcode byte.
 pub fn here(instr: Instr) -> u64
     ensures { result ≡ here instr }
 {
-    if 1 < instr.scale {
-        std::num::wrapping_add_u64(instr.offset as u64, 1)
-    } else {
-        std::num::wrapping_add_u64(instr.offset as u64, 0)
-    }
+    let prefix = if 1 < instr.scale { 1 } else { 0 };
+    (instr.offset as u64).wrapping_add(prefix)
 }
 
 // Operand k of an instruction.
@@ -233,14 +199,10 @@ pub fn operand_of(instr: Instr, k: u8) -> Operand
     ensures { result ≡ operand_of instr k }
 {
     let at = k as usize;
-    if 8 <= at {
+    if 8 <= at || instr.count <= at {
         return Operand::Nothing;
     }
-    if instr.count <= at {
-        return Operand::Nothing;
-    }
-    let op = instr.operands[at];
-    op.operand
+    instr.operands[at].operand
 }
 
 // The operand n behind operand k.
@@ -248,33 +210,30 @@ pub fn operand_of(instr: Instr, k: u8) -> Operand
 fn operand_after(instr: Instr, k: u8, n: u8) -> Operand
     ensures { result ≡ operand_of instr (k + n) }
 {
-    if 8 <= k {
+    let Some(at) = k.checked_add(n) else {
         return Operand::Nothing;
-    }
-    if 8 <= n {
-        return Operand::Nothing;
-    }
-    operand_of(instr, k + n)
+    };
+    operand_of(instr, at)
 }
 
 #[tactic(auto, unfolding(crate::specs::Targets::index_of))]
-fn index_of(op: Operand) -> Index
+fn index_of(op: Operand) -> Option<u32>
     ensures { result ≡ index_of op }
 {
     let Operand::Idx(v) = op else {
-        return Index::Nothing;
+        return None;
     };
-    Index::Is(v)
+    Some(v)
 }
 
 #[tactic(auto, unfolding(crate::specs::Targets::number_of))]
-fn number_of(op: Operand) -> Number
+fn number_of(op: Operand) -> Option<i64>
     ensures { result ≡ number_of op }
 {
     match op {
-        Operand::Idx(v) => Number::Is(v as i64),
-        Operand::Imm(v) => Number::Is(v),
-        _ => Number::Nothing,
+        Operand::Idx(v) => Some(v as i64),
+        Operand::Imm(v) => Some(v),
+        _ => None,
     }
 }
 
@@ -282,86 +241,52 @@ fn number_of(op: Operand) -> Number
 fn is_jump(kind: Kind) -> bool
     ensures { result ≡ is_jump kind }
 {
-    match kind {
-        Kind::On => false,
-        Kind::Ends => false,
-        Kind::Switch => false,
-        Kind::Jumps => true,
-        Kind::Branches => true,
-        Kind::JumpsBack => true,
-    }
+    matches!(kind, Kind::Jumps | Kind::Branches | Kind::JumpsBack)
 }
 
 // The target at distance d from place at.
-fn target_by(kind: Kind, at: u64, d: i64) -> Target
-    ensures { result ≡ target_by kind at (number.Is d) }
+fn target_by(kind: Kind, at: u64, d: i64) -> Option<u64>
+    ensures { result ≡ target_by kind at (Some d) }
 {
     match kind {
-        Kind::On => Target::Nothing,
-        Kind::Ends => Target::Nothing,
-        Kind::Switch => Target::Nothing,
-        Kind::Jumps => Target::At(words::target_after(at, d)),
-        Kind::Branches => Target::At(words::target_after(at, d)),
-        Kind::JumpsBack => Target::At(words::target_before(at, d)),
+        Kind::On | Kind::Ends | Kind::Switch => None,
+        Kind::Jumps | Kind::Branches => Some(words::target_after(at, d)),
+        Kind::JumpsBack => Some(words::target_before(at, d)),
     }
 }
 
 fn is_switch(kind: Kind) -> bool
     ensures { result ≡ is_switch kind }
 {
-    match kind {
-        Kind::Switch => true,
-        Kind::On => false,
-        Kind::Ends => false,
-        Kind::Jumps => false,
-        Kind::Branches => false,
-        Kind::JumpsBack => false,
-    }
+    matches!(kind, Kind::Switch)
 }
 
 // The case base of a switch.
-fn base_of(based: bool, op: Operand) -> Number
+fn base_of(based: bool, op: Operand) -> Option<i64>
     ensures { result ≡ base_of based op }
 {
-    if based { number_of(op) } else { Number::Is(0) }
+    if based { number_of(op) } else { Some(0) }
 }
 
-#[tactic(auto, unfolding(crate::specs::Targets::table_by))]
-fn table_by(pool: Pool, start: Index, size: Number, base: Number) -> Table
+// The table, or number 16.
+#[tactic(auto, unfolding(crate::specs::Targets::table_by, crate::specs::Targets::sized_by))]
+fn table_by(
+    pool: Option<PoolSlots>,
+    start: Option<u32>,
+    size: Option<i64>,
+    base: Option<i64>,
+) -> Result<Option<Entries>, BadSwitch>
     ensures { result ≡ table_by (found pool) start size base }
 {
-    match pool {
-        Pool::Nothing => Table::Nothing,
-        Pool::At(_) => match start {
-            Index::Nothing => Table::Nothing,
-            Index::Is(s) => match size {
-                Number::Nothing => Table::Nothing,
-                Number::Is(n) => sized(s, n, base),
-            },
-        },
+    let (Some(_), Some(start), Some(n), Some(base)) = (pool, start, size, base) else {
+        return Ok(None);
+    };
+    if n < 0 || 4096 < n {
+        return Err(BadSwitch);
     }
-}
-
-// The table of n entries, or number 16.
-#[tactic(auto, unfolding(crate::specs::Targets::sized_by))]
-fn sized(start: u32, n: i64, base: Number) -> Table
-    ensures { result ≡ sized_by start n base }
-{
-    match base {
-        Number::Nothing => Table::Nothing,
-        Number::Is(b) => {
-            if words::is_negative(n) {
-                return Table::Refused;
-            }
-            let count = words::unsigned_abs(n);
-            if 4096 < count {
-                return Table::Refused;
-            }
-            Table::At(Entries {
-                start,
-                count: count as u16,
-                base: words::wrap_i32(b),
-            })
-        }
-    }
+    Ok(Some(Entries {
+        start,
+        count: n as u16,
+        base: words::wrap_i32(base),
+    }))
 }

@@ -1,5 +1,6 @@
 // The items of a vector file (oracle/FORMAT.md), read in place: nothing is copied.
-ghost use Rattle.std.specs.Prelude.{◌≡◌, ◌<◌, length, take, drop};
+ghost use Rattle.std.specs.Prelude.{◌≡◌, ◌-◌, ◌<◌, length, take, drop};
+ghost use Rattle.std.specs.Iterator.{at_most};
 
 // A part of the vector file.
 #[derive(Clone, Copy)]
@@ -14,6 +15,37 @@ pub struct Item {
     pub kind: u8,
     pub body: Part,
     pub next: usize,
+}
+
+// The items of a vector file from a place on, one behind the other.
+#[derive(Clone, Copy)]
+pub struct Items<'a> {
+    pub bytes: &'a [u8],
+    pub at: usize,
+}
+
+impl<'a> Items<'a> {
+    // All of them.
+    pub fn new(bytes: &'a [u8]) -> Items<'a>
+        ensures { (result.bytes.now ≡ bytes.now) × (result.at ≡ 0) }
+    {
+        Items { bytes, at: 0 }
+    }
+}
+
+impl<'a> Iterator for Items<'a> {
+    type Item = Item;
+
+    ghost remaining = { λ s. at_most (length s.bytes.now - s.at) };
+
+    fn next(&mut self) -> Option<Item> {
+        if self.bytes.len() <= self.at {
+            return None;
+        }
+        let item = item_at(self.bytes, self.at);
+        self.at = item.next;
+        Some(item)
+    }
 }
 
 // Where in the vector file the eight record files, the lent code (8) and the handler records (9) are.

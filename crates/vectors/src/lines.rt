@@ -12,15 +12,14 @@ pub struct Total {
 
 // A file into a buffer that is longer than any of them: how many bytes.
 pub fn read(rt: &(impl Files + Eprint), name: &[u8], buffer: &mut [u8]) -> usize {
-    let loaded = inputs::load_file(rt, name, buffer);
-    if !loaded.good {
+    let Some(size) = inputs::load_file(rt, name, buffer) else {
         return 0;
-    }
-    if loaded.size == buffer.len() {
+    };
+    if size == buffer.len() {
         inputs::fail(rt, name, io::Error::other("too long"));
         return 0;
     }
-    loaded.size
+    size
 }
 
 pub fn both(a: Total, b: Total) -> Total {
@@ -50,8 +49,7 @@ fn print_more(rt: &impl Print, what: &str, n: u64) {
 }
 
 fn print_rows(rt: &impl Print, counts: Counts) {
-    let mut row: usize = 0;
-    while row < 40 {
+    for row in 0..40 {
         print_row(
             rt,
             row as u8,
@@ -59,7 +57,6 @@ fn print_rows(rt: &impl Print, counts: Counts) {
             counts.differences[row],
             counts.first[row],
         );
-        row += 1;
     }
 }
 

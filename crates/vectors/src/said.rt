@@ -1,6 +1,6 @@
 // Whether an answer is the recorded one: a byte of status, then its numbers, 8 bytes each, or its text, and nothing behind them.
 use crate::items::{Part, behind, lent};
-use refusal::{Check, Refusal};
+use refusal::Refusal;
 
 // Status 0.
 pub fn is_nothing(said: &[u8]) -> bool {
@@ -68,17 +68,19 @@ pub fn is_start(text: &[u8], out: &[u8], n: usize) -> bool {
 
 // Status 2: number and place.
 pub fn is_refused(said: &[u8], refusal: Refusal) -> bool {
-    if !has_form(said, 2, 17) {
-        return false;
-    }
-    are_2(said, 1, refusal.number as u64, refusal.place as u64)
+    is_refused_by(said, refusal.fault.number(), refusal.place)
+}
+
+// The same of a refusal that C is told.
+pub fn is_refused_by(said: &[u8], number: u8, place: usize) -> bool {
+    has_form(said, 2, 17) && are_2(said, 1, number as u64, place as u64)
 }
 
 // A check: done, or its refusal.
-pub fn is_check(said: &[u8], check: Check) -> bool {
+pub fn is_check(said: &[u8], check: Result<(), Refusal>) -> bool {
     match check {
-        Check::Ok => is_done(said),
-        Check::Refused(refusal) => is_refused(said, refusal),
+        Ok(()) => is_done(said),
+        Err(refusal) => is_refused(said, refusal),
     }
 }
 
@@ -108,14 +110,7 @@ pub fn are_2(said: &[u8], at: usize, a: u64, b: u64) -> bool {
 
 // The bytes of a buffer from a place on are as they were before the call: all 7.
 pub fn are_kept(buffer: &[u8], from: usize) -> bool {
-    let mut i = from;
-    while i < buffer.len() {
-        if buffer[i] != KEPT {
-            return false;
-        }
-        i += 1;
-    }
-    true
+    buffer.iter().skip(from).all(|&b| b == KEPT)
 }
 
 const KEPT: u8 = 7;

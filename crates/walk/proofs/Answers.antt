@@ -5,8 +5,8 @@ use mathlib.Core.List.{List, ◌++◌}
 use native.Mathlib.Omega.{arith}
 use lib.ListN.{length, drop}
 use Rattle.refusal.specs.declared.Refusal.{Refusal}
-use Rattle.refusal.specs.declared.Check.{Check}
-use Rattle.refusal.specs.declared.Check.TheVariants.{Ok, Refused}
+use Rattle.std.specs.Prelude.{Result, Ok, Err}
+use Rattle.refusal.specs.Check.{Check}
 use Rattle.refusal.specs.Check.{guarded_on}
 use Rattle.decoder.specs.declared.Outcome.{Outcome}
 use Rattle.decoder.specs.declared.Decoded.{Decoded}
@@ -16,59 +16,63 @@ use Rattle.refusal.proofs.Laws.{never, or_left}
 use Rattle.graph.specs.Graph.{Finding, Answer, finding, mark_list}
 use Rattle.graph.specs.Graph.Finding.{closed, leaves}
 use Rattle.graph.proofs.Answers.{computed}
-use Rattle.search.specs.declared.Searched.{Searched}
+use Rattle.search.specs.declared.Walked.{Walked}
+use Rattle.search.specs.declared.Walked.TheVariants as walked
 use Rattle.search.specs.mirror.Kept.{kept_graph, finding_as, IsFound}
 use Rattle.steps.specs.Steps.{Source, listing, walk_graph}
 use Rattle.steps.specs.mirror.Keeping.{Catches}
 use Rattle.steps.proofs.Listed.{walk_good}
 use Rattle.steps.proofs.Keeps.{keeps_found}
-use Rattle.walk.specs.declared.Walked.{Walked}
 use Rattle.walk.specs.Walk.{answer, walk_check, walk_found, walk_source, Promise}
 use Rattle.walk.specs.mirror.Search.{Started, WalkedBy}
-use Rattle.walk.specs.declared.Walked.TheVariants as walked
 
 -- a listing that no fault ended came to the code's end
-list_ends : (d : ℕ → Decoded) (f at : ℕ) → code_check (list_from d f at).outcome ≡ Ok → (list_from d f at).outcome ≡ Outcome.End
+list_ends : (d : ℕ → Decoded) (f at : ℕ) → code_check (list_from d f at).outcome ≡ Ok tt → (list_from d f at).outcome ≡ Outcome.End
 unfolding list_from
 list_ends d zero at ok = refl
 list_ends d (suc f) at ok = go (d at).outcome ok (list_ends d f (d at).instr.end)
   where
-    go : (o : Outcome) → code_check (list_on o (d at).instr (list_from d f (d at).instr.end)).outcome ≡ Ok
-        → (code_check (list_from d f (d at).instr.end).outcome ≡ Ok → (list_from d f (d at).instr.end).outcome ≡ Outcome.End)
+    go : (o : Outcome) → code_check (list_on o (d at).instr (list_from d f (d at).instr.end)).outcome ≡ Ok tt
+        → (code_check (list_from d f (d at).instr.end).outcome ≡ Ok tt → (list_from d f (d at).instr.end).outcome ≡ Outcome.End)
         → (list_on o (d at).instr (list_from d f (d at).instr.end)).outcome ≡ Outcome.End
     go Outcome.End ok rest = refl
     go (Outcome.Refused r) ok rest = never r ok
     go Outcome.Done ok rest = rest ok
 
+-- what the search answers is the answer of its finding
+answer_is : (r : Walked) → Ok r ≡ answer (finding_as r)
+answer_is walked.Closed = refl
+answer_is (walked.Leaves n o) = refl
+
 module _ (s : Source) where
   abbrev whole : Check
   whole = listing_check s.opcodes s.pooled (listing s)
 
-  no_fault : whole ≡ Ok → code_check (listing s).outcome ≡ Ok
+  no_fault : whole ≡ Ok tt → code_check (listing s).outcome ≡ Ok tt
   no_fault ok = or_left (code_check (listing s).outcome) _ ok
 
-  pub ended : whole ≡ Ok → (listing s).outcome ≡ Outcome.End
+  pub ended : whole ≡ Ok tt → (listing s).outcome ≡ Outcome.End
   ended ok = list_ends (decodes s.code s.opcodes s.types s.rfs) (suc (length s.code)) 0 (no_fault ok)
 
   -- ---- the call, by what the checks said
   module _ (M : List ℕ) where
     -- what a check leads to
-    abbrev Checked : Walked → List ℕ → Check → Type 0
-    Checked w M' c = WalkedBy (guarded_on c walked.Refused M (walk_found s M)) w M'
+    abbrev Checked : Result Walked Refusal → List ℕ → Check → Type 0
+    Checked w M' c = WalkedBy (guarded_on c Err M (walk_found s M)) w M'
 
-    pub source_refused : (r : Refusal) → Refused r ≡ walk_check s (length M) → WalkedBy (walk_source s M) (walked.Refused r) M
+    pub source_refused : (r : Refusal) → Err r ≡ walk_check s (length M) → WalkedBy (walk_source s M) (Err r) M
     unfolding walk_source
-    source_refused r e = subst (Checked (walked.Refused r) M) e (refl, refl)
+    source_refused r e = subst (Checked (Err r) M) e (refl, refl)
 
     -- marks Y were searched by themselves over the numbers that keep the code, and stand in front of the rest again
-    pub source_found : (catches : List ℕ) {heads words Y : List ℕ} {n : ℕ} {kept : Check} (r : Searched) (w : Walked) → Ok ≡ walk_check s (length M) → length s.code ≤ 65536 → n ≡ length s.code → length heads ≡ n
-        → Started s heads words kept → Catches s catches → IsFound (kept_graph s.elem heads words catches) n r Y → w ≡ answer (finding_as r) → WalkedBy (walk_source s M) w (Y ++ drop (length s.code) M)
+    pub source_found : (catches : List ℕ) {heads words Y : List ℕ} {n : ℕ} {kept : Check} (r : Walked) → Ok tt ≡ walk_check s (length M) → length s.code ≤ 65536 → n ≡ length s.code → length heads ≡ n
+        → Started s heads words kept → Catches s catches → IsFound (kept_graph s.elem heads words catches) n r Y → WalkedBy (walk_source s M) (Ok r) (Y ++ drop (length s.code) M)
     unfolding walk_source
-    source_found catches {heads} {words} {Y} {n} r w ok few all as_many k c f is =
+    source_found catches {heads} {words} {Y} {n} r ok few all as_many k c f =
         let fine = or_left whole _ (sym ok) in
         let x = keeps_found s heads words catches (k.keeps (no_fault fine)) c few (omega (arith, few, all, as_many)) (ended fine) n r Y f in
-        subst (Checked w (Y ++ drop (length s.code) M)) ok
-        (is ∙ ap answer x.0, ap (λ (y : List ℕ). y ++ drop (length s.code) M) (x.1 ∙ ap (mark_list (walk_graph s) (finding (walk_graph s))) all))
+        subst (Checked (Ok r) (Y ++ drop (length s.code) M)) ok
+        (answer_is r ∙ ap answer x.0, ap (λ (y : List ℕ). y ++ drop (length s.code) M) (x.1 ∙ ap (mark_list (walk_graph s) (finding (walk_graph s))) all))
 
   -- ---- demand 3
   met : (M : List ℕ) (f : Finding) → Answer (walk_graph s) (length s.code) M f → Promise s (answer f) M
@@ -79,18 +83,18 @@ module _ (s : Source) where
   unfolding walk_source
   promised M = go (walk_check s (length M)) refl
     where
-      go : (c : Check) → walk_check s (length M) ≡ c → let x = guarded_on c walked.Refused M (walk_found s M) in Promise s x.0 x.1
-      go (Refused r) h = tt
-      go Ok h = met _ (finding (walk_graph s)) (computed (walk_good s (ended (or_left whole _ h))) (length s.code) (drop (length s.code) M))
+      go : (c : Check) → walk_check s (length M) ≡ c → let x = guarded_on c Err M (walk_found s M) in Promise s x.0 x.1
+      go (Err r) h = tt
+      go (Ok tt) h = met _ (finding (walk_graph s)) (computed (walk_good s (ended (or_left whole _ h))) (length s.code) (drop (length s.code) M))
 
 -- ---- the calls
-pub walked_as : {a b : Walked × List ℕ} {r : Walked} {M : List ℕ} → a ≡ b → WalkedBy a r M → WalkedBy b r M
-walked_as {r = r} {M} e w = subst (λ (x : Walked × List ℕ). WalkedBy x r M) e w
+pub walked_as : {a b : Result Walked Refusal × List ℕ} {r : Result Walked Refusal} {M : List ℕ} → a ≡ b → WalkedBy a r M → WalkedBy b r M
+walked_as {r = r} {M} e w = subst (λ (x : Result Walked Refusal × List ℕ). WalkedBy x r M) e w
 
 -- what a refusal before the code is looked at, or the code's own answer, promises
-pub promise_unless : (s : Source) (c : Check) (M : List ℕ) {r : Walked} {M' : List ℕ} → WalkedBy (guarded_on c walked.Refused M (walk_source s M)) r M' → Promise s r M'
-promise_unless s c M {r} {M'} w = subst (λ (x : Walked). Promise s x M') (sym w.0) (subst (λ (x : List ℕ). Promise s (guarded_on c walked.Refused M (walk_source s M)).0 x) (sym w.1) (go c))
+pub promise_unless : (s : Source) (c : Check) (M : List ℕ) {r : Result Walked Refusal} {M' : List ℕ} → WalkedBy (guarded_on c Err M (walk_source s M)) r M' → Promise s r M'
+promise_unless s c M {r} {M'} w = subst (λ (x : Result Walked Refusal). Promise s x M') (sym w.0) (subst (λ (x : List ℕ). Promise s (guarded_on c Err M (walk_source s M)).0 x) (sym w.1) (go c))
   where
-    go : (c : Check) → let x = guarded_on c walked.Refused M (walk_source s M) in Promise s x.0 x.1
-    go Ok = promised s M
-    go (Refused x) = tt
+    go : (c : Check) → let x = guarded_on c Err M (walk_source s M) in Promise s x.0 x.1
+    go (Ok tt) = promised s M
+    go (Err x) = tt

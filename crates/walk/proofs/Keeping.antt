@@ -11,8 +11,9 @@ use lib.ListN.{length, get_or, set, length-set}
 use lib.Seq.{get_or-set_same, get_or-set_other}
 use Rattle.laws.proofs.Tests.{same?}
 use Rattle.refusal.specs.declared.Refusal.{Refusal}
-use Rattle.refusal.specs.declared.Check.{Check}
-use Rattle.refusal.specs.declared.Check.TheVariants.{Ok, Refused}
+use Rattle.std.specs.Prelude.{Ok, Err}
+use Rattle.refusal.specs.Check.{Check}
+use Rattle.refusal.specs.declared.Fault.TheVariants as fault
 use Rattle.refusal.specs.Check.{refused, first_refusal}
 use Rattle.decoder.specs.declared.Outcome.{Outcome}
 use Rattle.decoder.specs.declared.Decoded.{Decoded}
@@ -77,14 +78,14 @@ module _ (s : Source) where
     pub heads : length H ≡ len
     pub words : length W ≡ len
 
-  pub keeping_start : {H W : List ℕ} → Clear H → length H ≡ len → length W ≡ len → Keeping H W Ok 0
+  pub keeping_start : {H W : List ℕ} → Clear H → length H ≡ len → length W ≡ len → Keeping H W (Ok tt) 0
   unfolding going_start
   keeping_start {H} {W} c h w =
       let z : suc len - 0 ≡ suc len = omega arith in
       record { going = going_start s.opcodes s.pooled d len; starts = λ t. rw (z, no_head H t (c t)) refl; holds = λ t n. absurd (n (c t)); heads = h; words = w }
 
   module _ {H W : List ℕ} {check : Check} {i : ℕ} (m : Keeping H W check i) where
-    pub keeping_refused : (r : Refusal) → (d i).outcome ≡ Outcome.Refused r → Started s H W (Refused r)
+    pub keeping_refused : (r : Refusal) → (d i).outcome ≡ Outcome.Refused r → Started s H W (Err r)
     keeping_refused r e =
         let g = going_refused s.opcodes s.pooled d len m.going r e in
         record { checked = g.0; keeps = λ ok. absurd (g.1 ok) }
@@ -113,12 +114,12 @@ module _ (s : Source) where
       in_words : i < length W
       in_words = omega (arith, behind s i done, m.words)
 
-      checked : (c' : Check) → c' ≡ first_refusal check (cond at_i.refused (refused 16 i) Ok) → let x = (d i).instr in c' ≡ first_refusal check (table_check (jump_table s.pooled (s.opcodes.flow x.opcode) x) x.offset)
+      checked : (c' : Check) → c' ≡ first_refusal check (cond at_i.refused (refused fault.BadSwitch i) (Ok tt)) → let x = (d i).instr in c' ≡ first_refusal check (table_check (jump_table s.pooled (s.opcodes.flow x.opcode) x) x.offset)
       unfolding kept_at
       checked c' is =
           let x = (d i).instr in
           let t = jump_table s.pooled (s.opcodes.flow x.opcode) x in
-          is ∙ ap (first_refusal check) (ap (λ (b : Bool). cond b (refused 16 i) Ok) (refused_is s.elem s.pooled (s.opcodes.flow x.opcode) x (x.end - i)) ∙ check_is t i ∙ ap (table_check t) (sym (own_offset s.code s.opcodes s.types s.rfs i done)))
+          is ∙ ap (first_refusal check) (ap (λ (b : Bool). cond b (refused fault.BadSwitch i) (Ok tt)) (refused_is s.elem s.pooled (s.opcodes.flow x.opcode) x (x.end - i)) ∙ check_is t i ∙ ap (table_check t) (sym (own_offset s.code s.opcodes s.types s.rfs i done)))
 
       now_holds : (t : ℕ) → (get_or (set H i at_i.head) t 0 ≡ 0 → ⊥) → Holds s (set H i at_i.head) (set W i at_i.word) t
       now_holds t n =
@@ -127,7 +128,7 @@ module _ (s : Source) where
           (λ ne. let h = get_or-set_other H i t at_i.head 0 ne in let x = m.holds t (λ z. n (h ∙ z)) in record { done = x.done; head = h ∙ x.head; word = get_or-set_other W i t at_i.word 0 ne ∙ x.word })
           (same? t i)
 
-      pub keeping_done : (c' : Check) → c' ≡ first_refusal check (cond at_i.refused (refused 16 i) Ok) → Keeping (set H i at_i.head) (set W i at_i.word) c' (d i).instr.end
+      pub keeping_done : (c' : Check) → c' ≡ first_refusal check (cond at_i.refused (refused fault.BadSwitch i) (Ok tt)) → Keeping (set H i at_i.head) (set W i at_i.word) c' (d i).instr.end
       unfolding going_done
       keeping_done c' is =
           let g = m.going in
@@ -144,9 +145,9 @@ module _ (s : Source) where
           }
 
       -- the same, of what calls gave
-      pub kept_done : (k : Kept) (c' : Check) (e : ℕ) → k ≡ at_i → c' ≡ first_refusal check (cond k.refused (refused 16 i) Ok) → e ≡ (d i).instr.end → Keeping (set H i k.head) (set W i k.word) c' e
+      pub kept_done : (k : Kept) (c' : Check) (e : ℕ) → k ≡ at_i → c' ≡ first_refusal check (cond k.refused (refused fault.BadSwitch i) (Ok tt)) → e ≡ (d i).instr.end → Keeping (set H i k.head) (set W i k.word) c' e
       kept_done k c' e is checked ends =
-          subst (λ (x : Kept). c' ≡ first_refusal check (cond x.refused (refused 16 i) Ok) → Keeping (set H i x.head) (set W i x.word) c' e) (sym is)
+          subst (λ (x : Kept). c' ≡ first_refusal check (cond x.refused (refused fault.BadSwitch i) (Ok tt)) → Keeping (set H i x.head) (set W i x.word) c' e) (sym is)
           (λ h. subst (Keeping (set H i at_i.head) (set W i at_i.word) c') (sym ends) (keeping_done c' h)) checked
 
   -- what is kept of the instruction x, decoded at i

@@ -4,141 +4,131 @@ use mathlib.Core.Path.{◌≡◌, refl, sym, subst}
 use mathlib.Core.Bool.{Bool, true, false, cond, not, ◌&&◌, ◌||◌}
 use mathlib.Core.List.{List, [], ◌∷◌, map}
 use native.Mathlib.Omega.{arith}
-use borrow.Author.Tests.{ltb-true, not-true, eq-eqb}
 use lib.Dec.{eqb, ltb, leb}
 use lib.IntN.{ℤ}
 use lib.ListN.{length, get_or}
 use Rattle.laws.specs.Scan.{first_from}
-use Rattle.laws.proofs.Scan.{first_holds}
 use Rattle.refusal.proofs.Laws.{never}
-use Rattle.laws.proofs.Tests.{by_test, clash}
+use Rattle.laws.proofs.Tests.{by_test}
 use Rattle.refusal.specs.declared.Refusal.{Refusal}
-use Rattle.refusal.specs.declared.Check.{Check}
-use Rattle.refusal.specs.declared.Check.TheVariants.{Ok, Refused}
+use Rattle.std.specs.Prelude.{Option, Some, None, Result, Ok, Err}
+use Rattle.refusal.specs.Check.{Check}
+use Rattle.header.specs.declared.Header.{Header}
+use Rattle.targets.specs.declared.Entries.{Entries}
+use Rattle.search.specs.declared.Walked.{Walked}
+use Rattle.refusal.specs.declared.Fault.{Fault}
+use Rattle.refusal.specs.declared.Fault.TheVariants as fault
+use Rattle.refusal.specs.Fault.{number_of}
+use Rattle.search.specs.declared.Walked.TheVariants as walked
 use Rattle.refusal.specs.Check.{first_refusal, refusal_at, refuse_unless, first_bad, guarded_on}
 use Rattle.store.specs.Records.{object_of, object_count, slot_count}
 use Rattle.store.specs.Check.{sizes_ok, bad_object, bad_slot, check_store}
 use Rattle.serializer.specs.Field.{raw_at}
-use Rattle.tables.specs.Check.{records, check_names, is_faulty, first_fault, check_table}
+use Rattle.tables.specs.Check.{records, check_names, refused_for, is_faulty, first_fault, check_table}
 use Rattle.tables.specs.Names.{bad_name}
 use Rattle.tables.specs.Records.{opcode_size, opcode_name_size, most_opcodes, type_size, type_name_size, fixed_types, most_types, name_size, most_runtime, most_intrinsic, opcode_count, type_count, opcode_start, zeros, fields_ok, flow_fits, opcode_fault, type_ok, type_fault}
 use Rattle.layout.specs.Layout.{layout_size, bad_value, layout_of}
-use Rattle.header.specs.declared.HeaderAnswer.{HeaderAnswer}
-use Rattle.header.specs.declared.HeaderAnswer.TheVariants as header-answer
 use Rattle.header.specs.Header.{header_by, length_ok, length_by, rt_for}
 use Rattle.prefix.specs.declared.Head.{Head}
 use Rattle.decoder.specs.declared.Instr.{Instr}
 use Rattle.decoder.specs.declared.Outcome.{Outcome}
 use Rattle.decoder.specs.declared.Decoded.{Decoded}
 use Rattle.prefix.specs.Head.{op_at, behind, head_at}
-use Rattle.decoder.specs.Decode.{Part, parts_from, operand_types, part_width, offset_of, is_short, short_number, refused_at, read_parts, decode_head, decode_at}
+use Rattle.decoder.specs.Decode.{Part, parts_from, operand_types, part_width, offset_of, is_short, short_fault, refused_at, read_parts, decode_head, decode_at}
 use Rattle.decoder.specs.Listed.{list_on, list_from, decodes}
 use Rattle.flow.specs.Opcodes.{Opcodes, prefix_with}
-use Rattle.targets.specs.declared.Table.{Table}
-use Rattle.targets.specs.declared.Table.TheVariants as table
 use Rattle.targets.specs.Targets.{jump_table}
-use Rattle.function.specs.declared.PoolObject.{PoolObject}
-use Rattle.function.specs.declared.PoolObject.TheVariants as pool-object
 use Rattle.function.specs.Files.{Files, check_files, check_pool_object, check_lent}
 use Rattle.function.specs.Code.{header_at, header_check, table_check, switch_check, code_check}
 use Rattle.graph.specs.Graph.{Finding, finding}
 use Rattle.graph.specs.Graph.Finding.{closed, leaves}
 use Rattle.steps.specs.Steps.{Source, listing, walk_graph}
-use Rattle.walk.specs.declared.Walked.{Walked}
-use Rattle.walk.specs.declared.Walked.TheVariants as walked
 use Rattle.walk.specs.Walk.{answer, walk_check, walk_found, walk_source, held_check, Given, object_with, walk_with, lent_with, walk_lent_with}
 use Rattle.handlers.specs.Handlers.{handler_count, handlers_whole, bad_handler, check_handlers}
+use Rattle.targets.specs.declared.BadSwitch.{BadSwitch}
 
 pub record Row (r : Refusal) : Type 0 where
-  pub least : 1 ≤ r.number
-  pub most : r.number ≤ 26
+  pub least : 1 ≤ number_of r.fault
+  pub most : number_of r.fault ≤ 26
 
 -- ---- checks
-refused_one : (r q : Refusal) → Refused r ≡ Refused q → r ≡ q
+refused_one : (r q : Refusal) → ◌≡◌ {A = Check} (Err r) (Err q) → r ≡ q
 refused_one r q e = cc
 
 pub record RowOf (c : Check) : Type 0 where
-  pub row : (r : Refusal) → c ≡ Refused r → Row r
+  pub row : (r : Refusal) → c ≡ Err r → Row r
 
-no_row : RowOf Ok
+no_row : RowOf (Ok tt)
 no_row = record { row = λ r e. never r (sym e) }
 
-its_row : {r : Refusal} → Row r → RowOf (Refused r)
+its_row : {r : Refusal} → Row r → RowOf (Err r)
 its_row {r} h = record { row = λ q e. subst Row (refused_one r q e) h }
 
 either_row : {a b : Check} → RowOf a → RowOf b → RowOf (first_refusal a b)
 either_row {a} {b} p q = go a p
   where
     go : (a : Check) → RowOf a → RowOf (first_refusal a b)
-    go Ok p = q
-    go (Refused r) p = p
+    go (Ok tt) p = q
+    go (Err r) p = p
 
-unless_row : (good : Bool) (n : ℕ) → 1 ≤ n → n ≤ 26 → RowOf (refuse_unless good n)
-unless_row true n l h = no_row
-unless_row false n l h = its_row (record { least = l; most = h })
+unless_row : (good : Bool) (f : Fault) → 1 ≤ number_of f → number_of f ≤ 26 → RowOf (refuse_unless good f)
+unless_row true f l h = no_row
+unless_row false f l h = its_row (record { least = l; most = h })
 
-bad_row : (n : ℕ) (bad : ℕ → Bool) (k : ℕ) → 1 ≤ n → n ≤ 26 → RowOf (first_bad n bad k)
-bad_row n bad k l h = by_test RowOf (ltb (first_from bad 0 k) k) (λ t. its_row (record { least = l; most = h })) (λ t. no_row)
+bad_row : (f : Fault) (bad : ℕ → Bool) (k : ℕ) → 1 ≤ number_of f → number_of f ≤ 26 → RowOf (first_bad f bad k)
+bad_row f bad k l h = by_test RowOf (ltb (first_from bad 0 k) k) (λ t. its_row (record { least = l; most = h })) (λ t. no_row)
 
--- a fault that is found has a number other than 0
-fault_row : (fault : ℕ → ℕ) (n : ℕ) → ((k : ℕ) → fault k ≤ 26) → RowOf (first_fault fault n)
-fault_row fault n most =
-    let at = first_from (is_faulty fault) 0 n in
-    by_test RowOf (ltb at n)
-    (λ t. its_row (record { least = least (fault at) (first_holds (is_faulty fault) 0 n (omega (arith, ltb-true at n t))); most = most at }))
-    (λ t. no_row)
-  where
-    least : (v : ℕ) → not (eqb v 0) ≡ true → 1 ≤ v
-    least zero h = clash (eq-eqb 0 0 refl) (not-true (eqb 0 0) h)
-    least (suc v) h = omega arith
+-- a row over records, each of which is refused for a fault of its own
+fault_row : (wrong : ℕ → Option Fault) (n : ℕ) → ((k : ℕ) → RowOf (refused_for (wrong k) k)) → RowOf (first_fault wrong n)
+fault_row wrong n each = by_test RowOf (ltb (first_from (is_faulty wrong) 0 n) n) (λ t. each (first_from (is_faulty wrong) 0 n)) (λ t. no_row)
 
 pub table_row : (ops types runtime intrinsic layout : List ℕ) → RowOf (check_table ops types runtime intrinsic layout)
 unfolding check_table
 table_row ops types runtime intrinsic layout =
     let right = records opcode_size 1 most_opcodes ops && records type_size fixed_types most_types types && records name_size 0 most_runtime runtime && records name_size 0 most_intrinsic intrinsic && records layout_size 1 1 layout in
-    either_row (unless_row right 1 (omega arith) (omega arith))
+    either_row (unless_row right fault.TableSize (omega arith) (omega arith))
     (either_row (either_row (name opcode_size opcode_name_size ops) (either_row (name type_size type_name_size types) (either_row (name name_size name_size runtime) (name name_size name_size intrinsic))))
-    (either_row (fault_row (opcode_fault ops (type_count types)) (opcode_count ops) (λ k. opcode (fields_ok ops (opcode_start k) (type_count types) && zeros ops (opcode_start k + 54) (opcode_start k + opcode_size)) (flow_fits ops (opcode_start k))))
-    (either_row (fault_row (type_fault types) (type_count types) (λ k. type (type_ok types k))) (bad_row 5 (bad_value layout) 20 (omega arith) (omega arith)))))
+    (either_row (fault_row (opcode_fault ops (type_count types)) (opcode_count ops) (λ k. opcode (fields_ok ops (opcode_start k) (type_count types) && zeros ops (opcode_start k + 54) (opcode_start k + opcode_size)) (flow_fits ops (opcode_start k)) k))
+    (either_row (fault_row (type_fault types) (type_count types) (λ k. type (type_ok types k) k)) (bad_row fault.BadLayout (bad_value layout) 20 (omega arith) (omega arith)))))
   where
     name : (size w : ℕ) (s : List ℕ) → RowOf (check_names size w s)
-    name size w s = bad_row 2 (bad_name s size w) (length s / size) (omega arith) (omega arith)
+    name size w s = bad_row fault.BadName (bad_name s size w) (length s / size) (omega arith) (omega arith)
 
-    opcode : (good flow : Bool) → cond good (cond flow 0 26) 3 ≤ 26
-    opcode true true = omega arith
-    opcode true false = omega arith
-    opcode false flow = omega arith
+    opcode : (good flow : Bool) (k : ℕ) → RowOf (refused_for (cond good (cond flow None (Some fault.BadFlow)) (Some fault.BadOpcode)) k)
+    opcode true true k = no_row
+    opcode true false k = its_row (record { least = omega arith; most = omega arith })
+    opcode false flow k = its_row (record { least = omega arith; most = omega arith })
 
-    type : (good : Bool) → cond good 0 4 ≤ 26
-    type true = omega arith
-    type false = omega arith
+    type : (good : Bool) (k : ℕ) → RowOf (refused_for (cond good None (Some fault.BadType)) k)
+    type true k = no_row
+    type false k = its_row (record { least = omega arith; most = omega arith })
 
 store_row : (o s p : List ℕ) → RowOf (check_store o s p)
 unfolding check_store
 store_row o s p =
-    either_row (unless_row (sizes_ok (length o) (length s) (length p)) 6 (omega arith) (omega arith))
-    (either_row (bad_row 7 (bad_object o (slot_count s)) (object_count o) (omega arith) (omega arith)) (bad_row 7 (bad_slot o s p) (slot_count s) (omega arith) (omega arith)))
+    either_row (unless_row (sizes_ok (length o) (length s) (length p)) fault.StoreSize (omega arith) (omega arith))
+    (either_row (bad_row fault.BadRecord (bad_object o (slot_count s)) (object_count o) (omega arith) (omega arith)) (bad_row fault.BadRecord (bad_slot o s p) (slot_count s) (omega arith) (omega arith)))
 
 files_row : (f : Files) (k : ℕ) → RowOf (check_files f k)
 files_row f k =
     either_row (table_row f.opcodes f.types f.runtime f.intrinsic f.layout)
-    (either_row (store_row f.objects f.slots f.payload) (unless_row (ltb k (object_count f.objects) && eqb (object_of f.objects k).kind 1) 8 (omega arith) (omega arith)))
+    (either_row (store_row f.objects f.slots f.payload) (unless_row (ltb k (object_count f.objects) && eqb (object_of f.objects k).kind 1) fault.NoObject (omega arith) (omega arith)))
 
 header_row : (f : Files) (k : ℕ) → RowOf (header_check (header_at f k))
 unfolding header_by
 header_row f k =
     let l = layout_of f.layout in
     let o = object_of f.objects k in
-    by_test (λ (h : HeaderAnswer). RowOf (header_check h)) (length_ok (length_by f.payload (raw_at f.slots o.first o.count l.tagged_size) (rt_for f.slots o l) l)) {y = header-answer.Refused (refusal_at 9 0)} (λ t. no_row) (λ t. its_row (record { least = omega arith; most = omega arith }))
+    by_test (λ (h : Result Header Refusal). RowOf (header_check h)) (length_ok (length_by f.payload (raw_at f.slots o.first o.count l.tagged_size) (rt_for f.slots o l) l)) {y = Err (refusal_at fault.BadLength 0)} (λ t. no_row) (λ t. its_row (record { least = omega arith; most = omega arith }))
 
-pub lent_row : (f : Files) (w : PoolObject) (code : List ℕ) → RowOf (check_lent f w code)
+pub lent_row : (f : Files) (w : Option ℕ) (code : List ℕ) → RowOf (check_lent f w code)
 lent_row f w code =
     either_row (table_row f.opcodes f.types f.runtime f.intrinsic f.layout)
-    (either_row (object w) (unless_row (leb (length code) 65536) 10 (omega arith) (omega arith)))
+    (either_row (object w) (unless_row (leb (length code) 65536) fault.LongCode (omega arith) (omega arith)))
   where
-    object : (w : PoolObject) → RowOf (check_pool_object f.objects f.slots f.payload w)
-    object pool-object.Nothing = no_row
-    object (pool-object.Object n) = either_row (store_row f.objects f.slots f.payload) (unless_row (ltb n (object_count f.objects)) 8 (omega arith) (omega arith))
+    object : (w : Option ℕ) → RowOf (check_pool_object f.objects f.slots f.payload w)
+    object None = no_row
+    object (Some n) = either_row (store_row f.objects f.slots f.payload) (unless_row (ltb n (object_count f.objects)) fault.NoObject (omega arith) (omega arith))
 
 -- ---- decoding
 abbrev HeadRow : Head → Type 0
@@ -149,21 +139,21 @@ HeadRow (Head.Op opcode scale at) = Unit {0}
 op_row : (code : List ℕ) (ops start scale at : ℕ) → HeadRow (op_at code ops start scale at)
 op_row code ops start scale at = by_test HeadRow (leb ops (get_or code at 0)) (λ t. record { least = omega arith; most = omega arith }) (λ t. tt)
 
-behind_row : (code : List ℕ) (ops start n scale : ℕ) → 1 ≤ n → n ≤ 26 → HeadRow (behind code ops start n scale)
-behind_row code ops start n scale l h = by_test HeadRow (eqb (start + 1) (length code)) (λ t. record { least = l; most = h }) (λ t. op_row code ops start scale (start + 1))
+behind_row : (code : List ℕ) (ops start : ℕ) (f : Fault) (scale : ℕ) → 1 ≤ number_of f → number_of f ≤ 26 → HeadRow (behind code ops start f scale)
+behind_row code ops start f scale l h = by_test HeadRow (eqb (start + 1) (length code)) (λ t. record { least = l; most = h }) (λ t. op_row code ops start scale (start + 1))
 
 head_row : (code : List ℕ) (ops start wide extra : ℕ) → HeadRow (head_at code ops start wide extra)
 unfolding head_at
 head_row code ops start wide extra =
     by_test HeadRow (ltb (length code) start) (λ t. record { least = omega arith; most = omega arith })
     (λ t. by_test HeadRow (eqb start (length code)) (λ t. tt)
-    (λ t. by_test HeadRow (eqb (get_or code start 0) wide) (λ t. behind_row code ops start 11 2 (omega arith) (omega arith))
-    (λ t. by_test HeadRow (eqb (get_or code start 0) extra) (λ t. behind_row code ops start 12 4 (omega arith) (omega arith)) (λ t. op_row code ops start 1 start))))
+    (λ t. by_test HeadRow (eqb (get_or code start 0) wide) (λ t. behind_row code ops start fault.EndsAfterWide 2 (omega arith) (omega arith))
+    (λ t. by_test HeadRow (eqb (get_or code start 0) extra) (λ t. behind_row code ops start fault.EndsAfterExtraWide 4 (omega arith) (omega arith)) (λ t. op_row code ops start 1 start))))
 
 abbrev OutcomeRow : Outcome → Type 0
 OutcomeRow o = RowOf (code_check o)
 
-short_row : (p : Part) → (1 ≤ short_number p) × (short_number p ≤ 26)
+short_row : (p : Part) → (1 ≤ number_of (short_fault p)) × (number_of (short_fault p) ≤ 26)
 short_row (Part.own t) = (omega arith, omega arith)
 short_row Part.count = (omega arith, omega arith)
 
@@ -173,7 +163,7 @@ parts_row code types scale opcode rfs start at ps =
     let ws = map (part_width types scale) ps in
     let k = first_from (is_short code ws at) 0 (length ps) in
     let n = short_row (get_or ps k Part.count) in
-    by_test (λ (d : Decoded). OutcomeRow d.outcome) (ltb k (length ps)) {x = refused_at (short_number (get_or ps k Part.count)) (at + offset_of ws k)} (λ t. its_row (record { least = n.0; most = n.1 })) (λ t. no_row)
+    by_test (λ (d : Decoded). OutcomeRow d.outcome) (ltb k (length ps)) {x = refused_at (short_fault (get_or ps k Part.count)) (at + offset_of ws k)} (λ t. its_row (record { least = n.0; most = n.1 })) (λ t. no_row)
 
 pub decode_row : (code : List ℕ) (ops : Opcodes) (types : List ℕ) (rfs : ℤ) (at : ℕ) → OutcomeRow (decodes code ops types rfs at).outcome
 unfolding decode_at
@@ -199,36 +189,36 @@ unfolding switch_check
 switch_row ops pooled [] = no_row
 switch_row ops pooled (i ∷ is) = either_row (go (jump_table pooled (ops.flow i.opcode) i)) (switch_row ops pooled is)
   where
-    go : (t : Table) → RowOf (table_check t i.offset)
-    go table.Nothing = no_row
-    go (table.At e) = no_row
-    go table.Refused = its_row (record { least = omega arith; most = omega arith })
+    go : (t : Result (Option Entries) BadSwitch) → RowOf (table_check t i.offset)
+    go (Ok None) = no_row
+    go (Ok (Some e)) = no_row
+    go (Err e) = its_row (record { least = omega arith; most = omega arith })
 
-held_row : (h : HeaderAnswer) → RowOf (held_check h)
-held_row (header-answer.At h) = unless_row (eqb h.length 0 || ltb 0 h.code_len) 19 (omega arith) (omega arith)
-held_row (header-answer.Refused r) = no_row
+held_row : (h : Result Header Refusal) → RowOf (held_check h)
+held_row (Ok h) = unless_row (eqb h.length 0 || ltb 0 h.code_len) fault.CodeNotHeld (omega arith) (omega arith)
+held_row (Err r) = no_row
 
 -- ---- the handler records
 handlers_row : (hs : List ℕ) (n : ℕ) → RowOf (check_handlers hs n)
 unfolding check_handlers
-handlers_row hs n = either_row (unless_row (handlers_whole (length hs)) 24 (omega arith) (omega arith)) (bad_row 25 (bad_handler hs n) (handler_count hs) (omega arith) (omega arith))
+handlers_row hs n = either_row (unless_row (handlers_whole (length hs)) fault.HandlersSize (omega arith) (omega arith)) (bad_row fault.BadHandler (bad_handler hs n) (handler_count hs) (omega arith) (omega arith))
 
 -- ---- the calls
-abbrev pub WalkedRow : Walked → Type 0
-WalkedRow walked.Closed = Unit {0}
-WalkedRow (walked.Leaves n o) = Unit {0}
-WalkedRow (walked.Refused r) = Row r
+abbrev pub WalkedRow : Result Walked Refusal → Type 0
+WalkedRow (Ok walked.Closed) = Unit {0}
+WalkedRow (Ok (walked.Leaves n o)) = Unit {0}
+WalkedRow (Err r) = Row r
 
-guarded_row : (c : Check) (M : List ℕ) (x : Walked × List ℕ) → RowOf c → WalkedRow x.0 → WalkedRow (guarded_on c walked.Refused M x).0
-guarded_row Ok M x r w = w
-guarded_row (Refused q) M x r w = r.row q refl
+guarded_row : (c : Check) (M : List ℕ) (x : Result Walked Refusal × List ℕ) → RowOf c → WalkedRow x.0 → WalkedRow (guarded_on c Err M x).0
+guarded_row (Ok tt) M x r w = w
+guarded_row (Err q) M x r w = r.row q refl
 
 source_row : (s : Source) (M : List ℕ) → WalkedRow (walk_source s M).0
 unfolding walk_source
 source_row s M =
     let n = length s.code in
     let decoded = list_row (decodes s.code s.opcodes s.types s.rfs) (decode_row s.code s.opcodes s.types s.rfs) (suc n) 0 in
-    let room = unless_row (leb n (length M)) 18 (omega arith) (omega arith) in
+    let room = unless_row (leb n (length M)) fault.ShortMarks (omega arith) (omega arith) in
     guarded_row (walk_check s (length M)) M (walk_found s M)
     (either_row (either_row decoded (switch_row s.opcodes s.pooled (listing s).instrs)) (either_row room (handlers_row s.handlers n))) (found (finding (walk_graph s)))
   where
@@ -243,6 +233,6 @@ walk_row f g k M =
     guarded_row (first_refusal (check_files f k) (first_refusal (header_check h) (held_check h))) M (walk_source (object_with f g k) M)
     (either_row (files_row f k) (either_row (header_row f k) (held_row h))) (source_row (object_with f g k) M)
 
-pub walk_lent_row : (f : Files) (g : Given) (w : PoolObject) (code M : List ℕ) → WalkedRow (walk_lent_with f g w code M).0
+pub walk_lent_row : (f : Files) (g : Given) (w : Option ℕ) (code M : List ℕ) → WalkedRow (walk_lent_with f g w code M).0
 unfolding walk_lent_with
 walk_lent_row f g w code M = guarded_row (check_lent f w code) M (walk_source (lent_with f g w code) M) (lent_row f w code) (source_row (lent_with f g w code) M)

@@ -2,7 +2,8 @@
 #![tactic(auto)]
 
 ghost use Rattle.std.specs.Prelude.{◌≡◌, ◌≤◌, cond, ◌||◌, eqb, leb, ltb, length, []};
-ghost use Rattle.refusal.specs.declared.Check.TheVariants.{Ok};
+ghost use Rattle.refusal.specs.Check.{Check};
+ghost use Rattle.refusal.specs.declared.Fault.TheVariants as fault;
 ghost use Rattle.refusal.specs.Check.{refused, first_refusal, refuse_unless};
 ghost use Rattle.decoder.specs.Decode.{decode_at};
 ghost use Rattle.flow.specs.Opcodes.{opcodes_of};
@@ -17,20 +18,13 @@ ghost use Rattle.walk.specs.mirror.Search.{source_of, Prefixed, Clear, Started, 
 
 use decoder::Outcome;
 use flow::{Flow, Kind};
-use function::{Function, PoolObject};
-use header::{Header, HeaderAnswer};
-use refusal::{Check, Refusal};
-use search::{Elements, Searched};
+use function::Function;
+use header::Header;
+use refusal::{Fault, Refusal};
+use search::Elements;
+pub use search::Walked;
 use steps::Kept;
 use store::Object;
-
-// The answer to a walk check: closed, or the steps of the shortest walk that leaves and the offset it leaves from, or a refusal.
-#[derive(Clone, Copy)]
-pub enum Walked {
-    Closed,
-    Leaves(usize, usize),
-    Refused(Refusal),
-}
 
 // The walks of an object, a BytecodeArray: rows 1 to 9, 11 to 16, 19 and 18. After a refusal the marks are as they were.
 pub fn walk(
@@ -44,7 +38,7 @@ pub fn walk(
     slots: &[u8],
     payload: &[u8],
     object: usize,
-) -> Walked
+) -> Result<Walked, Refusal>
     ensures { let f : Files = files_of opcodes.now types.now runtime.now intrinsic.now
         layout.now objects.now slots.now payload.now in
         WalkedAs (walk_call f object marks.old) result marks.new × Promise (object_source f object) result marks.new }
@@ -67,31 +61,19 @@ pub fn walk_with(
     payload: &[u8],
     object: usize,
     handlers: &[u8],
-) -> Walked
+) -> Result<Walked, Refusal>
     ensures { let f : Files = files_of opcodes.now types.now runtime.now intrinsic.now
         layout.now objects.now slots.now payload.now in
         let g : Given = given_of handlers.now in
         WalkedAs (walk_with f g object marks.old) result marks.new × Promise (object_with f g object) result marks.new }
 {
-    let check = function::check_files(
+    function::check_files(
         opcodes, types, runtime, intrinsic, layout, objects, slots, payload, object,
-    );
-    match check {
-        Check::Refused(refusal) => Walked::Refused(refusal),
-        Check::Ok => walk_object(
-            marks,
-            opcodes,
-            types,
-            runtime,
-            intrinsic,
-            layout,
-            objects,
-            slots,
-            payload,
-            store::object_of(objects, object),
-            handlers,
-        ),
-    }
+    )?;
+    let o = store::object_of(objects, object);
+    walk_object(
+        marks, opcodes, types, runtime, intrinsic, layout, objects, slots, payload, o, handlers,
+    )
 }
 
 // The walks of lent code, with the pool of an object if one is lent: rows 1 to 8, 10, 11 to 16 and 18.
@@ -104,8 +86,8 @@ pub fn walk_code(
     objects: &[u8],
     slots: &[u8],
     payload: &[u8],
-    object: PoolObject,
-) -> Walked
+    object: Option<usize>,
+) -> Result<Walked, Refusal>
     ensures { let f : Files = lent_files opcodes.now types.now layout.now
         objects.now slots.now payload.now in
         WalkedAs (walk_lent f object code.now marks.old) result marks.new
@@ -126,27 +108,22 @@ pub fn walk_code_with(
     objects: &[u8],
     slots: &[u8],
     payload: &[u8],
-    object: PoolObject,
+    object: Option<usize>,
     handlers: &[u8],
-) -> Walked
+) -> Result<Walked, Refusal>
     ensures { let f : Files = lent_files opcodes.now types.now layout.now
         objects.now slots.now payload.now in
         let g : Given = given_of handlers.now in
         WalkedAs (walk_lent_with f g object code.now marks.old) result marks.new
         × Promise (lent_with f g object code.now) result marks.new }
 {
-    let check = function::check_lent(
+    function::check_lent(
         code, opcodes, types, layout, objects, slots, payload, object,
-    );
-    match check {
-        Check::Refused(refusal) => Walked::Refused(refusal),
-        Check::Ok => {
-            let shape = tables::layout_of(layout);
-            let pool = function::lent_pool(objects, slots, shape, object);
-            let f = function::function_of(opcodes, shape, pool, 0);
-            walk_source(marks, code, opcodes, types, slots, payload, handlers, f)
-        }
-    }
+    )?;
+    let shape = tables::layout_of(layout);
+    let pool = function::lent_pool(objects, slots, shape, object);
+    let f = function::function_of(opcodes, shape, pool, 0);
+    walk_source(marks, code, opcodes, types, slots, payload, handlers, f)
 }
 
 // The walks of an object whose files are good.
@@ -162,37 +139,25 @@ fn walk_object(
     payload: &[u8],
     object: Object,
     handlers: &[u8],
-) -> Walked
+) -> Result<Walked, Refusal>
     ensures { let s : Files = files_of opcodes.now types.now runtime.now intrinsic.now
         layout.now objects.now slots.now payload.now in
         WalkedBy (walk_searched s (given_of handlers.now) object marks.old) result marks.new }
 {
     let shape = tables::layout_of(layout);
-    match header::header_at_unchecked(slots, payload, object, shape) {
-        HeaderAnswer::Refused(refusal) => Walked::Refused(refusal),
-        HeaderAnswer::At(h) => {
-            if !is_held(h) {
-                return Walked::Refused(Refusal {
-                    number: refusal::CODE_NOT_HELD,
-                    place: 0,
-                });
-            }
-            let pool = function::pool_of(objects, slots, shape, object);
-            let f = function::function_of(opcodes, shape, pool, h.parameter_count);
-            let held = serializer::lent(payload, h.code_at, h.code_len);
-            walk_source(marks, held, opcodes, types, slots, payload, handlers, f)
-        }
-    }
+    let h = header::header_at_unchecked(slots, payload, object, shape)?;
+    refusal::refuse_unless(is_held(h), Fault::CodeNotHeld)?;
+    let pool = function::pool_of(objects, slots, shape, object);
+    let f = function::function_of(opcodes, shape, pool, h.parameter_count);
+    let held = serializer::lent(payload, h.code_at, h.code_len);
+    walk_source(marks, held, opcodes, types, slots, payload, handlers, f)
 }
 
 // Whether a run holds the code that a header tells of; none is needed where that is empty.
 fn is_held(h: Header) -> bool
     ensures { result ≡ (eqb h.length 0 || ltb 0 h.code_len) }
 {
-    if h.length == 0 {
-        return true;
-    }
-    0 < h.code_len
+    h.length == 0 || 0 < h.code_len
 }
 
 // The walks of a code of at most 65,536 bytes, once its files are good. Room by the code's length: most code is short, and the room is cleared in
@@ -206,7 +171,7 @@ fn walk_source(
     payload: &[u8],
     handlers: &[u8],
     f: Function,
-) -> Walked
+) -> Result<Walked, Refusal>
     requires { (length code.now ≤ 65536) × Prefixed opcodes.now f }
     ensures { WalkedBy (walk_source
         (source_of code.now opcodes.now types.now slots.now payload.now
@@ -230,7 +195,7 @@ fn walk_short(
     payload: &[u8],
     handlers: &[u8],
     f: Function,
-) -> Walked
+) -> Result<Walked, Refusal>
     requires { (length code.now ≤ 1024) × Prefixed opcodes.now f }
     ensures { WalkedBy (walk_source
         (source_of code.now opcodes.now types.now slots.now payload.now
@@ -265,7 +230,7 @@ fn walk_middle(
     payload: &[u8],
     handlers: &[u8],
     f: Function,
-) -> Walked
+) -> Result<Walked, Refusal>
     requires { (length code.now ≤ 8192) × Prefixed opcodes.now f }
     ensures { WalkedBy (walk_source
         (source_of code.now opcodes.now types.now slots.now payload.now
@@ -300,7 +265,7 @@ fn walk_long(
     payload: &[u8],
     handlers: &[u8],
     f: Function,
-) -> Walked
+) -> Result<Walked, Refusal>
     requires { (length code.now ≤ 65536) × Prefixed opcodes.now f }
     ensures { WalkedBy (walk_source
         (source_of code.now opcodes.now types.now slots.now payload.now
@@ -340,7 +305,7 @@ fn walk_in(
     words: &mut [u32],
     catches: &mut [u32],
     queue: &mut [u16],
-) -> Walked
+) -> Result<Walked, Refusal>
     requires { (length code.now ≤ 65536) × (length code.now ≤ length heads.old) × (length code.now ≤ length words.old)
         × (length code.now ≤ length catches.old) × (length code.now ≤ length queue.old)
         × Clear heads.old × Clear catches.old × Prefixed opcodes.now f }
@@ -353,36 +318,12 @@ fn walk_in(
     let h = &mut heads[..n];
     let w = &mut words[..n];
     let c = &mut catches[..n];
-    let kept = keep_code(code, opcodes, types, slots, payload, f, h, w);
-    let room = marks.len();
-    let late = handlers::check_handlers(handlers, n);
-    let check = refusal::first_refusal(kept, room_check(n, room, late));
-    match check {
-        Check::Refused(refusal) => Walked::Refused(refusal),
-        Check::Ok => {
-            handlers::catch_table(code, opcodes, handlers, f.wide, f.extra, c);
-            let e = Elements { ts: f.ts, pool };
-            let found = search::search(slots, payload, e, h, w, c, &mut marks[..n], queue);
-            answer_of(found)
-        }
-    }
-}
-
-// 18, for a code of n bytes and so many marks, and what comes behind it.
-fn room_check(n: usize, room: usize, late: Check) -> Check
-    ensures { result ≡ first_refusal (refuse_unless (leb n room) 18) late }
-{
-    let check = refusal::refuse_unless(n <= room, refusal::SHORT_MARKS);
-    refusal::first_refusal(check, late)
-}
-
-fn answer_of(found: Searched) -> Walked
-    ensures { result ≡ answer (finding_as found) }
-{
-    match found {
-        Searched::Closed => Walked::Closed,
-        Searched::Leaves(steps, offset) => Walked::Leaves(steps, offset),
-    }
+    keep_code(code, opcodes, types, slots, payload, f, h, w)?;
+    refusal::refuse_unless(n <= marks.len(), Fault::ShortMarks)?;
+    handlers::check_handlers(handlers, n)?;
+    handlers::catch_table(code, opcodes, handlers, f.wide, f.extra, c);
+    let e = Elements { ts: f.ts, pool };
+    Ok(search::search(slots, payload, e, h, w, c, &mut marks[..n], queue))
 }
 
 // Makes the checks 11 to 16, and keeps of each listed instruction where it goes: at its offset, in room where no head stands yet.
@@ -395,7 +336,7 @@ fn keep_code(
     f: Function,
     heads: &mut [u32],
     words: &mut [u32],
-) -> Check
+) -> Result<(), Refusal>
     requires { Prefixed opcodes.now f × (length code.now ≤ 65536) × (length heads.old ≡ length code.now)
         × (length words.old ≡ length code.now) × Clear heads.old }
     ensures { Started
@@ -420,7 +361,7 @@ fn keep_all(
     f: Function,
     heads: &mut [u32],
     words: &mut [u32],
-) -> Check
+) -> Result<(), Refusal>
     requires { Prefixed opcodes.now f × (length code.now ≤ 65536) × (length heads.old ≡ length code.now)
         × (length words.old ≡ length code.now) × Clear heads.old
         × PoolBlocked slots.now f.ts f.pool blocks.now }
@@ -428,13 +369,14 @@ fn keep_all(
         (source_of code.now opcodes.now types.now slots.now payload.now [] f)
         heads.new words.new result }
 {
-    let mut check = Check::Ok;
+    let mut check = Ok(());
     let mut i: usize = 0;
+    // A step is as long as the instruction: a range or an iterator would be no plainer.
     while i < code.len() {
         let x = decoder::extent_at(code, opcodes, types, i, f.wide, f.extra);
         let outcome = x.outcome;
         match outcome {
-            Outcome::Refused(refusal) => return Check::Refused(refusal),
+            Outcome::Refused(refusal) => return Err(refusal),
             Outcome::End => return check,
             Outcome::Done => {
                 let end = x.end;
@@ -514,17 +456,16 @@ fn keep_jump(
 }
 
 // Number 16 for a table that is refused, behind the faults before it.
-fn kept_check(check: Check, bad: bool, at: usize) -> Check
-    ensures { result ≡ first_refusal check (cond bad (refused 16 at) Ok) }
+fn kept_check(check: Result<(), Refusal>, bad: bool, at: usize) -> Result<(), Refusal>
+    ensures { result ≡ first_refusal check (cond bad (refused fault.BadSwitch at) (Ok tt)) }
 {
+    check?;
     if bad {
-        return refusal::first_refusal(
-            check,
-            Check::Refused(Refusal {
-                number: refusal::BAD_SWITCH,
-                place: at,
-            }),
-        );
+        Err(Refusal {
+            fault: Fault::BadSwitch,
+            place: at,
+        })
+    } else {
+        Ok(())
     }
-    check
 }

@@ -1,31 +1,16 @@
 -- Laws of signed numbers: what the code's conversions compute, over the width, and what wraps. Assumes nothing.
-use Rattle.std.proofs.Common.{◌≡◌, ℕ, zero, suc, ◌+◌, ◌-◌, ◌/◌, ◌%◌, ◌^◌, ◌<◌, ◌≤◌, Bool, true, false, cond, eqb, ltb, ℤ, pos, negsuc, ◌+ℤ◌, ◌-ℤ◌, neg_ℤ, nat_abs, sym, refl, ap, ◌∙◌, lt_of_lt_of_le, not-suc-le-zero, mod-eq_of_lt, arith, to_z-of_z, w8, w16, w32, w64, Fits, SFits, to_z, of_z, ltb-false, ltb-true, le-ltb, eq-eqb, ne_eqb, eqb-true}
+use Rattle.std.proofs.Common.{◌≡◌, ℕ, zero, suc, ◌+◌, ◌-◌, ◌/◌, ◌%◌, ◌^◌, ◌<◌, ◌≤◌, Bool, true, false, cond, eqb, ltb, ℤ, pos, negsuc, ◌+ℤ◌, ◌-ℤ◌, neg_ℤ, sym, refl, ap, ◌∙◌, lt_of_lt_of_le, mod-eq_of_lt, arith, to_z-of_z, w8, w16, w32, w64, Fits, SFits, to_z, of_z, ltb-false, ltb-true, le-ltb, eq-eqb, ne_eqb, eqb-true}
 use native.Mathlib.Nat.{pow-le-pow_right}
 use Rattle.laws.proofs.Tests.{clash}
 use lib.Signed.{lt_z, mag, quot_z}
 use mir.Syntax.{Width, w128}
+use Rattle.std.specs.Int.{int_wrap, int_wrapping_sub}
+use Rattle.std.proofs.lemmas.Int.{int_wrap-add_left, wrapping_sub_is}
 use mir.ValLaws.{to_z_pos, to_z-Fits, of_z-to_z}
 use mir.Val.{sel, bits, hbits}
 use Rattle.words.specs.Signed.{modulo, wrap32, signed, list_last, negative, eq_z}
 use Rattle.words.specs.mirror.Bits.{extend_from, extend_bits}
 use Rattle.words.proofs.Modulo.{modulo-lt, modulo-add, modulo-sub}
-
--- -1 - z, for both signs of z
-not_neg : (n : ℕ) → negsuc 0 -ℤ negsuc n ≡ pos n
-not_neg n = rw (le-ltb (suc n) 1 (omega arith)) (ap pos (omega arith))
-
-not-pos : (n : ℕ) → negsuc 0 -ℤ pos n ≡ negsuc n
-not-pos zero = refl
-not-pos (suc n) = ap negsuc (omega arith)
-
--- z < 0, as a test on a signed number gives it
-is_neg : (z : ℤ) → lt_z z (pos 0) ≡ true → z ≡ negsuc (mag z)
-is_neg (pos n) h = absurd (not-suc-le-zero (ltb-true n 0 h))
-is_neg (negsuc n) h = refl
-
-is_pos : (z : ℤ) → lt_z z (pos 0) ≡ false → z ≡ pos (mag z)
-is_pos (pos n) h = refl
-is_pos (negsuc n) h = cc
 
 pub below_zero : (z : ℤ) → lt_z z (pos 0) ≡ negative z
 below_zero (pos n) = le-ltb n 0 (omega arith)
@@ -47,66 +32,15 @@ unfolding modulo
 modulo_fits w (pos n) h = mod-eq_of_lt (lt_of_lt_of_le h.sfits (half_le w))
 modulo_fits w (negsuc n) h = ap (λ (k : ℕ). 2 ^ bits w - suc k) (mod-eq_of_lt (lt_of_lt_of_le h.sfits (half_le w)))
 
--- ---- a signed number z that the code reads back from its bits
-module _ (w : Width) (z : ℤ) (fits : SFits w z) where
-  read : {b : Bool} → lt_z (to_z w (of_z w z)) (pos 0) ≡ b → lt_z z (pos 0) ≡ b
-  read h = rw (to_z-of_z {w = w} {z = z} fits) at h
+-- bits read as signed, with the highest set; m has all bits set
+pub to_z_high : (w : Width) (m x : ℕ) → suc m ≡ 2 ^ bits w → 2 ^ bits w ≡ 2 ^ hbits w + 2 ^ hbits w → 2 ^ hbits w ≤ x → x < 2 ^ bits w → to_z w x ≡ negsuc (m - x)
+to_z_high w m x all twice high fits = rw (le-ltb x (2 ^ hbits w) high) (ap negsuc (omega arith))
 
-  module _ (h : lt_z (to_z w (of_z w z)) (pos 0) ≡ true) where
-    pub neg : negsuc 0 -ℤ to_z w (of_z w z) ≡ pos (mag z)
-    neg = ap (λ (y : ℤ). negsuc 0 -ℤ y) (to_z-of_z fits ∙ is_neg z (read h)) ∙ not_neg (mag z)
-
-    pub neg_back : to_z w (of_z w (negsuc 0 -ℤ to_z w (of_z w z))) ≡ pos (mag z)
-    neg_back = ap (λ (y : ℤ). to_z w (of_z w y)) neg ∙ to_z-of_z {w = w} {z = pos (mag z)} (record { sfits = fits.sfits })
-
-    pub abs_neg : nat_abs z ≡ mag z + 1
-    abs_neg = ap nat_abs (is_neg z (read h)) ∙ omega arith
-
-    pub modulo-neg : modulo (2 ^ bits w) z ≡ 2 ^ bits w - suc (mag z)
-    modulo-neg = modulo_fits w z fits ∙ ap (of_z w) (is_neg z (read h))
-
-  module _ (h : lt_z (to_z w (of_z w z)) (pos 0) ≡ false) where
-    pub not_below : to_z w (of_z w z) ≡ pos (mag z)
-    not_below = to_z-of_z fits ∙ is_pos z (read h)
-
-    pub modulo-pos : modulo (2 ^ bits w) z ≡ mag z
-    modulo-pos = modulo_fits w z fits ∙ ap (of_z w) (is_pos z (read h))
-
--- ---- bits read as signed: what the code of `signed32` and `signed64` computes for bits with the highest set; m has all bits set
-module _ (w : Width) (m x : ℕ) (all : suc m ≡ 2 ^ bits w) (twice : 2 ^ bits w ≡ 2 ^ hbits w + 2 ^ hbits w) (high : 2 ^ hbits w ≤ x) (fits : x < 2 ^ bits w) where
-  pub not_high : negsuc 0 -ℤ to_z w (m - x) ≡ negsuc (m - x)
-  not_high = ap (λ (y : ℤ). negsuc 0 -ℤ y) (to_z_pos w (m - x) (omega arith)) ∙ not-pos (m - x)
-
-  pub to_z_high : to_z w x ≡ negsuc (m - x)
-  to_z_high = rw (le-ltb x (2 ^ hbits w) high) (ap negsuc (omega arith))
-
-  pub high_fits : SFits w (negsuc (m - x))
-  high_fits = record { sfits = omega arith }
-
--- what is read back of a result z that the bits d give
-pub read_back : {d : ℕ} {z : ℤ} → Fits w32 d → z ≡ to_z w32 d → to_z w32 (of_z w32 z) ≡ to_z w32 d
-read_back {d} {z} fd e = ap (λ (y : ℤ). to_z w32 (of_z w32 y)) e ∙ ap (to_z w32) (of_z-to_z w32 d fd)
-
--- ---- sums and differences that wrap, from the bits x and y of a and b; d are the bits of the result
-module _ (a b : ℤ) (x y d : ℕ) (p : x ≡ modulo (2 ^ 32) a) (q : y ≡ modulo (2 ^ 32) b) where
-  pub wrap_sub : d < 2 ^ 32 → (d + y) % 2 ^ 32 ≡ x → to_z w32 d ≡ wrap32 (a -ℤ b)
-  unfolding wrap32
-  wrap_sub fd e =
-      let s : d ≡ modulo (2 ^ 32) (a -ℤ b) = omega (arith, modulo-sub (2 ^ 32) (omega arith) a b, modulo-lt (2 ^ 32) (omega arith) b) in
-      ap (to_z w32) s
-
-  pub wrap_add : d ≡ (x + y) % 2 ^ 32 → to_z w32 d ≡ wrap32 (a +ℤ b)
-  unfolding wrap32
-  wrap_add e =
-      let s : d ≡ modulo (2 ^ 32) (a +ℤ b) = omega (arith, modulo-add (2 ^ 32) (omega arith) a b) in
-      ap (to_z w32) s
-
--- the last index of a list: y are the bits of first + count, d those of the result
-pub last_law : (first : ℤ) (count x y d : ℕ) → x ≡ modulo (2 ^ 32) first → y ≡ (x + count) % 2 ^ 32 → d < 2 ^ 32 → (d + 1) % 2 ^ 32 ≡ y → to_z w32 d ≡ list_last first count
-unfolding modulo
-last_law first count x y d p q fd e =
-    let n : y ≡ modulo (2 ^ 32) (first +ℤ pos count) = omega (arith, modulo-add (2 ^ 32) (omega arith) first (pos count)) in
-    wrap_sub (first +ℤ pos count) (pos 1) y 1 d n refl fd e
+-- std's wrapping and the same by remainders
+pub wrap_same : (z : ℤ) → int_wrap w32 z ≡ wrap32 z
+unfolding int_wrap wrap32 modulo
+wrap_same (pos n) = refl
+wrap_same (negsuc n) = let e : 2 ^ 32 - 1 - n % 2 ^ 32 ≡ 2 ^ 32 - suc (n % 2 ^ 32) = omega arith in ap (to_z w32) e
 
 -- wrapping twice is wrapping once
 pub modulo_wrap : (z : ℤ) → modulo (2 ^ 32) (wrap32 z) ≡ modulo (2 ^ 32) z
@@ -118,21 +52,26 @@ modulo_wrap z =
 
 -- wrapping before a sum or a difference changes nothing
 pub wrap_add_wrap : (a b : ℤ) → wrap32 (wrap32 a +ℤ b) ≡ wrap32 (a +ℤ b)
-unfolding wrap32
-wrap_add_wrap a b =
-    let e : modulo (2 ^ 32) (wrap32 a +ℤ b) ≡ modulo (2 ^ 32) (a +ℤ b) =
-    modulo-add (2 ^ 32) (omega arith) (wrap32 a) b ∙ ap (λ (k : ℕ). (k + modulo (2 ^ 32) b) % 2 ^ 32) (modulo_wrap a) ∙ sym (modulo-add (2 ^ 32) (omega arith) a b)
-    in ap (to_z w32) e
+wrap_add_wrap a b = simp wrap_same at (int_wrap-add_left w32 a b)
 
--- ---- targets: the 64 bits of a sum and a difference with a natural; y are the bits of the distance
-module _ (here : ℕ) (z : ℤ) (y d : ℕ) (q : y ≡ modulo (2 ^ 64) z) where
-  pub target_add : d ≡ (here + y) % 2 ^ 64 → d ≡ modulo (2 ^ 64) (pos here +ℤ z)
-  unfolding modulo
-  target_add e = omega (arith, modulo-add (2 ^ 64) (omega arith) (pos here) z)
+-- the last register of a list: r is first + count, wrapped
+pub last_law : (first : ℤ) (count : ℕ) (r : ℤ) → SFits w32 first → SFits w32 r → r ≡ to_z w32 ((of_z w32 first + count) % 2 ^ 32)
+    → int_wrapping_sub w32 r (pos 1) ≡ list_last first count
+unfolding wrap32 modulo
+last_law first count r f g e =
+    let past : (of_z w32 first + count) % 2 ^ 32 ≡ modulo (2 ^ 32) (first +ℤ pos count) = omega (arith, modulo-add (2 ^ 32) (omega arith) first (pos count), modulo_fits w32 first f) in
+    let s : r ≡ wrap32 (first +ℤ pos count) = e ∙ ap (to_z w32) past in
+    wrapping_sub_is w32 r (pos 1) g (record { sfits = omega arith }) ∙ wrap_same (r -ℤ pos 1) ∙ ap (λ (z : ℤ). wrap32 (z -ℤ pos 1)) s ∙ wrap_add_wrap (first +ℤ pos count) (negsuc 0)
 
-  pub target_sub : d < 2 ^ 64 → here < 2 ^ 64 → (d + y) % 2 ^ 64 ≡ here → d ≡ modulo (2 ^ 64) (pos here -ℤ z)
+-- ---- targets: the 64 bits of a sum and a difference with a natural
+module _ (here : ℕ) (z : ℤ) (f : SFits w64 z) where
+  pub target_add : (here + of_z w64 z) % 2 ^ 64 ≡ modulo (2 ^ 64) (pos here +ℤ z)
   unfolding modulo
-  target_sub fd fh e = omega (arith, modulo-sub (2 ^ 64) (omega arith) (pos here) z, modulo-lt (2 ^ 64) (omega arith) z)
+  target_add = omega (arith, modulo-add (2 ^ 64) (omega arith) (pos here) z, modulo_fits w64 z f)
+
+  pub target_sub : (here + (2 ^ 64 - of_z w64 z)) % 2 ^ 64 ≡ modulo (2 ^ 64) (pos here -ℤ z)
+  unfolding modulo
+  target_sub = omega (arith, modulo-sub (2 ^ 64) (omega arith) (pos here) z, modulo_fits w64 z f)
 
 -- ---- one law for the widths below 32: a number of twice half values, its sign extended to 32 bits
 extend_law : (half x : ℕ) → half + half ≤ 2 ^ 31 → x < half + half

@@ -12,7 +12,7 @@ use lib.ListN.{length, take, drop}
 use lib.IntN.{ℤ}
 use Rattle.laws.proofs.Tests.{and_left, and_right, clash, either}
 use Rattle.words.proofs.Le.{Bytes}
-use Rattle.refusal.specs.declared.Check.TheVariants.{Ok}
+use Rattle.std.specs.Prelude.{Ok}
 use Rattle.text.specs.Written.{put_text}
 use Rattle.layout.specs.Layout.{signed_value}
 use Rattle.tables.specs.Records.{width}
@@ -113,7 +113,7 @@ module _ (ops : Opcodes) (types : List ℕ) (rfs : ℤ) where
     own_place = ap (λ (x : Instr). x.offset) is_back
 
     -- it is accepted, and where the widths of its types are narrow it has the bytes it was read from
-    pub written_again : (check_write ops types rfs i ≡ Ok) × (AllNarrow types i.scale (operand_types ops i.opcode) → written_bytes ops types rfs i ≡ take (i.end - at) (drop at code))
+    pub written_again : (check_write ops types rfs i ≡ Ok tt) × (AllNarrow types i.scale (operand_types ops i.opcode) → written_bytes ops types rfs i ≡ take (i.end - at) (drop at code))
     written_again =
         rw is_back (
           accepts ops types rfs (instr_of at back.opcode back.scale back.e back.operands)
@@ -130,7 +130,7 @@ module _ (ops : Opcodes) (types : List ℕ) (rfs : ℤ) where
 
 -- and so is its call, by a checked and narrow table: no refusal but 17
 pub call_again : (ops types layout code : List ℕ) → Bytes code → (at : ℕ) (i : Instr) → decodes code (opcodes_of ops) types (signed_value layout 13) at ≡ record { outcome = Outcome.Done; instr = i }
-    → check_table ops types [] [] layout ≡ Ok → NarrowTable types → (out : List ℕ) → write_call ops types layout i out ≡ put_text (take (i.end - at) (drop at code)) out
+    → check_table ops types [] [] layout ≡ Ok tt → NarrowTable types → (out : List ℕ) → write_call ops types layout i out ≡ put_text (take (i.end - at) (drop at code)) out
 unfolding write_call
 call_again ops types layout code bytes at i done table small out =
     let rfs = signed_value layout 13 in

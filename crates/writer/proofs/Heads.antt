@@ -19,6 +19,8 @@ use Rattle.prefix.specs.Head.{op_at, behind, head_at}
 use Rattle.writer.specs.Bytes.{head_bytes}
 use Rattle.writer.specs.Write.{scale_ok, opcode_fits}
 use Rattle.writer.proofs.Spans.{Spans, spans_none, spans_byte}
+use Rattle.refusal.specs.declared.Fault.{Fault}
+use Rattle.refusal.specs.declared.Fault.TheVariants as fault
 
 module _ (ops : Opcodes) where
   abbrev wide : ℕ
@@ -68,25 +70,25 @@ module _ (ops : Opcodes) where
     plain-head r e p q = let n = not_last opcode r e in rw (n.0, n.1, n.2, p, q, lt-leb ops.many opcode has)
 
     -- the opcode behind a prefix
-    behind_as : (x number k : ℕ) (r : List ℕ) → code ≡ s ++ (x ∷ opcode ∷ r) → behind code ops.many (length s) number k ≡ Head.Op opcode k (length s + 2)
-    behind_as x number k r e =
-        let f : code ≡ (s ++ (x ∷ [])) ++ (opcode ∷ r) = e ∙ sym (append_assoc s (x ∷ []) (opcode ∷ r)) in
+    behind_as : (x : ℕ) (f : Fault) (k : ℕ) (r : List ℕ) → code ≡ s ++ (x ∷ opcode ∷ r) → behind code ops.many (length s) f k ≡ Head.Op opcode k (length s + 2)
+    behind_as x f k r e =
+        let split : code ≡ (s ++ (x ∷ [])) ++ (opcode ∷ r) = e ∙ sym (append_assoc s (x ∷ []) (opcode ∷ r)) in
         let n : length (s ++ (x ∷ [])) ≡ length s + 1 = length-append s (x ∷ []) in
-        let l : length code ≡ length s + 1 + suc (length r) = ap length f ∙ length-append (s ++ (x ∷ [])) (opcode ∷ r) ∙ ap (λ (m : ℕ). m + suc (length r)) n in
+        let l : length code ≡ length s + 1 + suc (length r) = ap length split ∙ length-append (s ++ (x ∷ [])) (opcode ∷ r) ∙ ap (λ (m : ℕ). m + suc (length r)) n in
         let b : get_or code (length s + 1) 0 ≡ opcode =
-        ap (λ (m : ℕ). get_or code m 0) (sym n) ∙ ap (λ (c : List ℕ). get_or c (length (s ++ (x ∷ []))) 0) f ∙ get_or-append_seam (s ++ (x ∷ [])) opcode r 0 in
+        ap (λ (m : ℕ). get_or code m 0) (sym n) ∙ ap (λ (c : List ℕ). get_or c (length (s ++ (x ∷ []))) 0) split ∙ get_or-append_seam (s ++ (x ∷ [])) opcode r 0 in
         let z : length s + 1 + 1 ≡ length s + 2 = omega arith in
         rw (ne_eqb (length s + 1) (length code) (λ p. omega arith), b, lt-leb ops.many opcode has) (ap (λ (m : ℕ). Head.Op opcode k m) z)
 
     wide_head : (r : List ℕ) → code ≡ s ++ (wide ∷ opcode ∷ r) → head_of code (length s) ≡ Head.Op opcode 2 (length s + 2)
     unfolding head_at
-    wide_head r e = let n = not_last wide (opcode ∷ r) e in rw (n.0, n.1, n.2, eq-eqb wide wide refl) (behind_as wide 11 2 r e)
+    wide_head r e = let n = not_last wide (opcode ∷ r) e in rw (n.0, n.1, n.2, eq-eqb wide wide refl) (behind_as wide fault.EndsAfterWide 2 r e)
 
     extra_head : (r : List ℕ) → code ≡ s ++ (extra ∷ opcode ∷ r) → extra < 256 → head_of code (length s) ≡ Head.Op opcode 4 (length s + 2)
     unfolding head_at
     extra_head r e there =
         let n = not_last extra (opcode ∷ r) e in
-        rw (n.0, n.1, n.2, ne_eqb extra wide (prefix_apart there), eq-eqb extra extra refl) (behind_as extra 12 4 r e)
+        rw (n.0, n.1, n.2, ne_eqb extra wide (prefix_apart there), eq-eqb extra extra refl) (behind_as extra fault.EndsAfterExtraWide 4 r e)
 
   pub written_head : (scale opcode : ℕ) (code s u : List ℕ) → scale_ok ops scale ≡ true → opcode_fits ops scale opcode ≡ true → code ≡ s ++ (head_bytes ops scale opcode ++ u)
       → head_of code (length s) ≡ Head.Op opcode scale (length s + length (head_bytes ops scale opcode))
@@ -139,10 +141,10 @@ module _ (ops : Opcodes) where
         })
 
     -- an opcode behind the prefix x of a scale
-    behind_says : (x number scale : ℕ) → at < length code → get_or code at 0 ≡ x → scale_ok ops scale ≡ true → eqb scale 1 ≡ false
-        → ((opcode : ℕ) → head_bytes ops scale opcode ≡ x ∷ opcode ∷ []) → HeadSays code at (behind code ops.many at number scale)
+    behind_says : (x : ℕ) (f : Fault) (scale : ℕ) → at < length code → get_or code at 0 ≡ x → scale_ok ops scale ≡ true → eqb scale 1 ≡ false
+        → ((opcode : ℕ) → head_bytes ops scale opcode ≡ x ∷ opcode ∷ []) → HeadSays code at (behind code ops.many at f scale)
     unfolding opcode_fits
-    behind_says x number scale below b so n made =
+    behind_says x f scale below b so n made =
         by_test (HeadSays code at) (eqb (at + 1) (length code)) (λ h. tt)
         (λ h. by_test (HeadSays code at) (leb ops.many (get_or code (at + 1) 0)) (λ k. tt)
         (λ k.
@@ -156,13 +158,13 @@ module _ (ops : Opcodes) where
               (spans_byte code at (at + 1 + 1) (opcode ∷ []) below (spans_byte code (at + 1) (at + 1 + 1) [] room (spans_none code (at + 1 + 1))));
         }))
 
-    wide_says : at < length code → wide < 256 → get_or code at 0 ≡ wide → HeadSays code at (behind code ops.many at 11 2)
+    wide_says : at < length code → wide < 256 → get_or code at 0 ≡ wide → HeadSays code at (behind code ops.many at fault.EndsAfterWide 2)
     unfolding scale_ok head_bytes
-    wide_says below l b = behind_says wide 11 2 below b (lt-ltb wide 256 l) refl (λ opcode. refl)
+    wide_says below l b = behind_says wide fault.EndsAfterWide 2 below b (lt-ltb wide 256 l) refl (λ opcode. refl)
 
-    extra_says : at < length code → extra < 256 → get_or code at 0 ≡ extra → HeadSays code at (behind code ops.many at 12 4)
+    extra_says : at < length code → extra < 256 → get_or code at 0 ≡ extra → HeadSays code at (behind code ops.many at fault.EndsAfterExtraWide 4)
     unfolding scale_ok head_bytes
-    extra_says below l b = behind_says extra 12 4 below b (lt-ltb extra 256 l) refl (λ opcode. refl)
+    extra_says below l b = behind_says extra fault.EndsAfterExtraWide 4 below b (lt-ltb extra 256 l) refl (λ opcode. refl)
 
     pub head_says : Bytes code → HeadSays code at (head_of code at)
     unfolding head_at

@@ -200,29 +200,6 @@ module _ (types : List ℕ) (rfs : ℤ) (ops : Opcodes) (i : Instr) {n : ℕ} (a
   unfolding is_list
   bytes_told = rw (← all)
 
--- ---- 22
-module _ (ops : Opcodes) (scale opcode : ℕ) where
-  pub fits_beyond : ops.many ≤ opcode → opcode_fits ops scale opcode ≡ false
-  unfolding opcode_fits
-  fits_beyond h = rw (le-ltb opcode ops.many h)
-
-  pub fits_prefixed : opcode < ops.many → (scale ≡ 1 → ⊥) → opcode_fits ops scale opcode ≡ true
-  unfolding opcode_fits
-  fits_prefixed h n = rw (lt-ltb opcode ops.many h, ne_eqb scale 1 n)
-
-  pub fits_plain : opcode < ops.many → scale ≡ 1 → opcode_fits ops scale opcode ≡ (not (eqb opcode (prefix_with ops 1)) && not (eqb opcode (prefix_with ops 2)))
-  unfolding opcode_fits
-  fits_plain h e = rw (lt-ltb opcode ops.many h, eq-eqb scale 1 e)
-
-  -- where w and x are the prefix opcodes
-  pub fits_wide : {w : ℕ} → w ≡ prefix_with ops 1 → opcode < ops.many → scale ≡ 1 → opcode ≡ w → opcode_fits ops scale opcode ≡ false
-  fits_wide {w} p h e is = fits_plain h e ∙ ap (λ (t : Bool). not t && not (eqb opcode (prefix_with ops 2))) (eq-eqb opcode (prefix_with ops 1) (is ∙ p))
-
-  pub fits_extra : {w x : ℕ} → w ≡ prefix_with ops 1 → x ≡ prefix_with ops 2 → opcode < ops.many → scale ≡ 1 → (opcode ≡ w → ⊥) → opcode_fits ops scale opcode ≡ not (eqb opcode x)
-  fits_extra {w} {x} p q h e n =
-      fits_plain h e ∙ ap (λ (t : Bool). not t && not (eqb opcode (prefix_with ops 2))) (ne_eqb opcode (prefix_with ops 1) (λ is. n (is ∙ sym p)))
-      ∙ ap (λ (k : ℕ). not (eqb opcode k)) (sym q)
-
 -- ---- the head
 module _ (ops : Opcodes) (scale : ℕ) where
   pub wide_there : scale_ok ops scale ≡ true → scale ≡ 2 → prefix_with ops 1 < 256

@@ -28,6 +28,7 @@ use Rattle.writer.specs.Write.{same_operand, back_as, reads_back, operands_ok}
 use Rattle.writer.specs.Narrow.{Narrow, AllNarrow}
 use Rattle.writer.proofs.Spans.{front, Spans, spans_none, spans_more}
 use Rattle.writer.proofs.Operands.{same_itself, same_one, back_same, stored_low}
+use Rattle.refusal.specs.declared.Fault.TheVariants as fault
 
 -- a list is of the kind that keeps its count
 list_kind : (t : ℕ) → is_list t ≡ true → kind_of t ≡ list
@@ -114,9 +115,9 @@ module _ (types : List ℕ) (scale : ℕ) (rfs : ℤ) where
           go : (r : Bool) → at + size_by r t ≤ length code
               → cond (leb (at + own t) (length code))
               (cond r
-              (cond (leb (at + own t + counts) (length code)) (add (read_by code at t true) (got code types scale rfs true (at + own t + counts) ts)) (bad (refusal_at 15 (at + own t))))
+              (cond (leb (at + own t + counts) (length code)) (add (read_by code at t true) (got code types scale rfs true (at + own t + counts) ts)) (bad (refusal_at fault.EndsInCount (at + own t))))
               (add (read_by code at t false) (got code types scale rfs false (at + own t) ts)))
-              (bad (refusal_at 14 at))
+              (bad (refusal_at fault.EndsInOperand at))
               ≡ add (read_by code at t r) (got code types scale rfs r (at + size_by r t) ts)
           go true room =
               let e : at + own t + counts ≡ at + (own t + counts) = omega arith in
@@ -143,12 +144,12 @@ module _ (types : List ℕ) (scale : ℕ) (rfs : ℤ) where
           go : (r q : Bool) → leb (at + own t) (length code) ≡ q → (u : Bool) → leb (at + own t + counts) (length code) ≡ u
               → cond q
               (cond r
-              (cond u (add (read_by code at t true) (got code types scale rfs true (at + own t + counts) ts)) (bad (refusal_at 15 (at + own t))))
+              (cond u (add (read_by code at t true) (got code types scale rfs true (at + own t + counts) ts)) (bad (refusal_at fault.EndsInCount (at + own t))))
               (add (read_by code at t false) (got code types scale rfs false (at + own t) ts)))
-              (bad (refusal_at 14 at))
+              (bad (refusal_at fault.EndsInOperand at))
               ≡ good e os → NextBy r e os
-          go r false p u m g = not_good (refusal_at 14 at) e os g
-          go true true p false m g = not_good (refusal_at 15 (at + own t)) e os g
+          go r false p u m g = not_good (refusal_at fault.EndsInOperand at) e os g
+          go true true p false m g = not_good (refusal_at fault.EndsInCount (at + own t)) e os g
           go true true p true m g =
               let i = add_good (read_by code at t true) (got code types scale rfs true (at + own t + counts) ts) g in
               let z : at + (own t + counts) ≡ at + own t + counts = omega arith in

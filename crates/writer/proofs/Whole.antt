@@ -6,7 +6,7 @@ use native.Mathlib.Omega.{arith}
 use lib.ListN.{length, take, drop}
 use lib.IntN.{ℤ}
 use Rattle.words.proofs.Le.{Bytes}
-use Rattle.refusal.specs.declared.Check.TheVariants.{Ok}
+use Rattle.std.specs.Prelude.{Ok}
 use Rattle.flow.specs.Opcodes.{Opcodes, prefix_with}
 use Rattle.decoder.specs.declared.Instr.{Instr}
 use Rattle.decoder.specs.declared.Outcome.{Outcome}
@@ -46,8 +46,8 @@ each_with P Q (i ∷ is) f h = (f.0 h.0, each_with P Q is f.1 h.1)
 
 module _ (code : List ℕ) (ops : Opcodes) (types : List ℕ) (rfs : ℤ) (bytes : Bytes code) where
   -- no listed instruction is refused, however the listing ended
-  pub listed_accepted : Each (λ i. check_write ops types rfs i ≡ Ok) (listed code ops types rfs).instrs
-  listed_accepted = each_list (λ i. check_write ops types rfs i ≡ Ok) (decodes code ops types rfs) (λ at i e. (written_again ops types rfs code bytes at i e).0) (suc (length code)) 0
+  pub listed_accepted : Each (λ i. check_write ops types rfs i ≡ Ok tt) (listed code ops types rfs).instrs
+  listed_accepted = each_list (λ i. check_write ops types rfs i ≡ Ok tt) (decodes code ops types rfs) (λ at i e. (written_again ops types rfs code bytes at i e).0) (suc (length code)) 0
 
   -- "Writing what was decoded gives back the bytes": a code that was listed to its end is written as it was, one instruction behind the other, where the
   -- widths of the listed opcodes' types are narrow

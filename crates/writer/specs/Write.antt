@@ -1,10 +1,11 @@
 -- Writing an instruction, as a call: 01's checks of the table, then 02's numbers 21 to 23, each at place 0, then 17.
 use Rattle.std.specs.Prelude.{ℕ, ◌%◌, ◌^◌, ◌≡◌, Bool, true, false, cond, not, ◌&&◌, List, [], ◌∷◌, ◌++◌, map, eqb, leb, ltb, ℤ, length, take}
 use Rattle.words.specs.Signed.{eq_z}
-use Rattle.refusal.specs.declared.Check.{Check}
+use Rattle.std.specs.Prelude.{Result, Ok, Err}
+use Rattle.refusal.specs.declared.Refusal.{Refusal}
+use Rattle.refusal.specs.Check.{Check}
+use Rattle.refusal.specs.declared.Fault.TheVariants as fault
 use Rattle.refusal.specs.Check.{first_refusal, refuse_unless, guarded_on}
-use Rattle.text.specs.declared.Written.{Written}
-use Rattle.text.specs.declared.Written.TheVariants.{Done, Refused}
 use Rattle.text.specs.Written.{put_text}
 use Rattle.layout.specs.Layout.{signed_value}
 use Rattle.tables.specs.Records.{width}
@@ -66,26 +67,26 @@ given i = map operand_of (take i.count i.operands)
 -- 21, 22, 23: no more operands are read than there are records
 abbrev pub check_write : Opcodes → List ℕ → ℤ → Instr → Check
 check_write ops types rfs i =
-    first_refusal (refuse_unless (scale_ok ops i.scale) 21)
-    (first_refusal (refuse_unless (opcode_fits ops i.scale i.opcode) 22)
-    (refuse_unless (leb i.count 8 && operands_ok types i.scale rfs false (operand_types ops i.opcode) (given i)) 23))
+    first_refusal (refuse_unless (scale_ok ops i.scale) fault.WrongScale)
+    (first_refusal (refuse_unless (opcode_fits ops i.scale i.opcode) fault.WrongOpcode)
+    (refuse_unless (leb i.count 8 && operands_ok types i.scale rfs false (operand_types ops i.opcode) (given i)) fault.WrongOperands))
 
 -- 1 to 5 and 21, which do not ask for the opcode
 abbrev pub check_scale : List ℕ → List ℕ → List ℕ → ℕ → Check
-check_scale ops types layout scale = first_refusal (check_table ops types [] [] layout) (refuse_unless (scale_ok (opcodes_of ops) scale) 21)
+check_scale ops types layout scale = first_refusal (check_table ops types [] [] layout) (refuse_unless (scale_ok (opcodes_of ops) scale) fault.WrongScale)
 
 -- what the call writes. It is lent no name files; of the instruction neither offset nor end is read.
 abbrev pub written_bytes : Opcodes → List ℕ → ℤ → Instr → List ℕ
 written_bytes ops types rfs i = instr_bytes ops types rfs i.scale i.opcode (given i)
 
-unfoldable pub write_call : List ℕ → List ℕ → List ℕ → Instr → List ℕ → Written × List ℕ
+unfoldable pub write_call : List ℕ → List ℕ → List ℕ → Instr → List ℕ → Result ℕ Refusal × List ℕ
 write_call ops types layout i out =
-    guarded_on (first_refusal (check_table ops types [] [] layout) (check_write (opcodes_of ops) types (signed_value layout 13) i)) Refused out
+    guarded_on (first_refusal (check_table ops types [] [] layout) (check_write (opcodes_of ops) types (signed_value layout 13) i)) Err out
     (put_text (written_bytes (opcodes_of ops) types (signed_value layout 13) i) out)
 
 -- "Decoding what was written gives back scale, opcode and operands", wherever the bytes stand in a code: of an answer r and the buffer o'.
-abbrev pub ReadsBack : List ℕ → List ℕ → List ℕ → Instr → Written → List ℕ → Type 0
-ReadsBack ops types layout i (Done n) o' =
+abbrev pub ReadsBack : List ℕ → List ℕ → List ℕ → Instr → Result ℕ Refusal → List ℕ → Type 0
+ReadsBack ops types layout i (Ok n) o' =
     (s u : List ℕ) → decodes (s ++ (take n o' ++ u)) (opcodes_of ops) types (signed_value layout 13) (length s)
     ≡ record { outcome = Outcome.Done; instr = instr_of (length s) i.opcode i.scale (length (s ++ take n o')) (given i) }
-ReadsBack ops types layout i (Refused r) o' = Unit {0}
+ReadsBack ops types layout i (Err r) o' = Unit {0}

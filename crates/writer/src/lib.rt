@@ -17,51 +17,51 @@ ghost use Rattle.writer.specs.Write.{same_operand, reads_back, operands_ok, scal
 
 use decoder::Instr;
 use operand::Operand;
-use refusal::{Check, Refusal};
-use text::Written;
+use refusal::{Fault, Refusal};
 
 // The bytes of an instruction, from the start of the buffer on; neither its offset nor its end is read. Rows 1 to 5, then 21 to 23 and 17; after a
 // refusal the buffer is as it was.
-pub fn write(out: &mut [u8], opcodes: &[u8], types: &[u8], layout: &[u8], instr: Instr) -> Written
+pub fn write(
+    out: &mut [u8],
+    opcodes: &[u8],
+    types: &[u8],
+    layout: &[u8],
+    instr: Instr,
+) -> Result<usize, Refusal>
     ensures { WrittenAs (write_call opcodes.now types.now layout.now instr out.old) result out.new
         × ReadsBack opcodes.now types.now layout.now instr result out.new }
 {
-    let table = tables::check_table(opcodes, types, b"", b"", layout);
-    let shape = tables::layout_of(layout);
-    let frame = shape.frame;
-    let start = frame.reg_file_start;
-    match refusal::first_refusal(table, check_write(opcodes, types, start, instr)) {
-        Check::Refused(refusal) => Written::Refused(refusal),
-        Check::Ok => write_unchecked(out, opcodes, types, start, instr),
-    }
+    tables::check_table(opcodes, types, b"", b"", layout)?;
+    let start = tables::layout_of(layout).frame.reg_file_start;
+    check_write(opcodes, types, start, instr)?;
+    write_unchecked(out, opcodes, types, start, instr)
 }
 
 // Rows 1 to 5 and 21: what is wrong before an opcode is looked at.
-pub fn check_scale(opcodes: &[u8], types: &[u8], layout: &[u8], scale: u8) -> Check
+pub fn check_scale(opcodes: &[u8], types: &[u8], layout: &[u8], scale: u8) -> Result<(), Refusal>
     ensures { result ≡ check_scale opcodes.now types.now layout.now scale }
 {
-    let table = tables::check_table(opcodes, types, b"", b"", layout);
-    let good = scale_ok(opcodes, scale);
-    refusal::first_refusal(table, refusal::refuse_unless(good, refusal::WRONG_SCALE))
+    tables::check_table(opcodes, types, b"", b"", layout)?;
+    refusal::refuse_unless(scale_ok(opcodes, scale), Fault::WrongScale)
 }
 
 // Rows 21 to 23.
-fn check_write(opcodes: &[u8], types: &[u8], start: i32, instr: Instr) -> Check
+fn check_write(opcodes: &[u8], types: &[u8], start: i32, instr: Instr) -> Result<(), Refusal>
     ensures { result ≡ check_write (opcodes_of opcodes.now) types.now start instr }
 {
-    let scale = refusal::refuse_unless(scale_ok(opcodes, instr.scale), refusal::WRONG_SCALE);
-    let opcode = refusal::refuse_unless(
+    refusal::refuse_unless(scale_ok(opcodes, instr.scale), Fault::WrongScale)?;
+    refusal::refuse_unless(
         opcode_fits(opcodes, instr.scale, instr.opcode),
-        refusal::WRONG_OPCODE,
-    );
-    let operands = refusal::refuse_unless(
+        Fault::WrongOpcode,
+    )?;
+    refusal::refuse_unless(
         operands_ok(opcodes, types, start, instr),
-        refusal::WRONG_OPERANDS,
-    );
-    refusal::first_refusal(scale, refusal::first_refusal(opcode, operands))
+        Fault::WrongOperands,
+    )
 }
 
 // Whether a scale is one, and has its prefix.
+#[tactic(auto, unfolding(crate::specs::Write::scale_ok))]
 fn scale_ok(opcodes: &[u8], scale: u8) -> bool
     ensures { result ≡ scale_ok (opcodes_of opcodes.now) scale }
 {
@@ -75,20 +75,13 @@ fn scale_ok(opcodes: &[u8], scale: u8) -> bool
 }
 
 // Whether there is such an opcode, which at scale 1 is no prefix opcode.
+#[tactic(auto, unfolding(crate::specs::Write::opcode_fits))]
 fn opcode_fits(opcodes: &[u8], scale: u8, opcode: u8) -> bool
     ensures { result ≡ opcode_fits (opcodes_of opcodes.now) scale opcode }
 {
-    if tables::opcode_count(opcodes) <= opcode as usize {
-        return false;
-    }
-    if scale != 1 {
-        return true;
-    }
     let prefixes = tables::prefix_ops(opcodes);
-    if opcode as u16 == prefixes.wide {
-        return false;
-    }
-    opcode as u16 != prefixes.extra_wide
+    let is_prefix = opcode as u16 == prefixes.wide || opcode as u16 == prefixes.extra_wide;
+    (opcode as usize) < tables::opcode_count(opcodes) && (scale != 1 || !is_prefix)
 }
 
 // Whether the operands are as many as the opcode takes, and each reads back.
@@ -100,26 +93,21 @@ fn operands_ok(opcodes: &[u8], types: &[u8], start: i32, instr: Instr) -> bool
     if instr.count > 8 {
         return false;
     }
-    let all = tables::operand_count(opcodes, instr.opcode);
-    let n = if all < 8 { all } else { 8 };
+    let n = tables::operand_count(opcodes, instr.opcode).min(8);
     let mut j: usize = 0;
     let mut before: u8 = 0;
-    let mut k: u8 = 0;
-    while k < n {
+    for k in 0..n {
         let t = tables::type_code(opcodes, instr.opcode, k);
         if !operand::counted(t, before) {
             if j >= instr.count {
                 return false;
             }
-            let place = operands[j];
-            let op = place.operand;
-            if !reads_back(types, instr.scale, start, t, op) {
+            if !reads_back(types, instr.scale, start, t, operands[j].operand) {
                 return false;
             }
             j += 1;
         }
         before = t;
-        k += 1;
     }
     j == instr.count
 }
@@ -149,13 +137,9 @@ fn list_count(types: &[u8], scale: u8, t: u8, op: Operand) -> u32
 fn same_operand(a: Operand, b: Operand) -> bool
     ensures { result ≡ same_operand a b }
 {
-    if operand::kind_number(a) != operand::kind_number(b) {
-        return false;
-    }
-    if !words::eq_i64(operand::first_number(a), operand::first_number(b)) {
-        return false;
-    }
-    operand::second_number(a) == operand::second_number(b)
+    operand::kind_number(a) == operand::kind_number(b)
+        && words::eq_i64(operand::first_number(a), operand::first_number(b))
+        && operand::second_number(a) == operand::second_number(b)
 }
 
 // The bytes of an instruction that is accepted.
@@ -165,23 +149,24 @@ fn write_unchecked(
     types: &[u8],
     start: i32,
     instr: Instr,
-) -> Written
+) -> Result<usize, Refusal>
     requires { (scale_ok (opcodes_of opcodes.now) instr.scale ≡ true) × (instr.count ≤ 8) }
     ensures { WrittenBy (put_text (written_bytes (opcodes_of opcodes.now) types.now start instr) out.old)
         result out.new }
 {
     let size = put_instr(&mut out[0..0], opcodes, types, start, instr);
     if size <= out.len() {
-        Written::Done(put_instr(out, opcodes, types, start, instr))
+        Ok(put_instr(out, opcodes, types, start, instr))
     } else {
-        Written::Refused(Refusal {
-            number: refusal::SHORT_OUTPUT,
+        Err(Refusal {
+            fault: Fault::ShortOutput,
             place: 0,
         })
     }
 }
 
 // The bytes of an instruction.
+#[tactic(auto, unfolding(crate::specs::Bytes::instr_bytes))]
 fn put_instr(out: &mut [u8], opcodes: &[u8], types: &[u8], start: i32, instr: Instr) -> usize
     requires { (scale_ok (opcodes_of opcodes.now) instr.scale ≡ true) × (instr.count ≤ 8) }
     ensures { Put out.old 0 (written_bytes (opcodes_of opcodes.now) types.now start instr) out.new result }
@@ -223,25 +208,20 @@ fn put_operands(
         (operand_types (opcodes_of opcodes.now) instr.opcode) (given instr)) out.new result }
 {
     let operands = instr.operands;
-    let all = tables::operand_count(opcodes, instr.opcode);
-    let n = if all < 8 { all } else { 8 };
+    let n = tables::operand_count(opcodes, instr.opcode).min(8);
     let mut p = text::saturating_add(at, 0);
     let mut j: usize = 0;
     let mut before: u8 = 0;
-    let mut k: u8 = 0;
-    while k < n {
+    for k in 0..n {
         let t = tables::type_code(opcodes, instr.opcode, k);
         if !operand::counted(t, before) {
             if j >= instr.count {
                 return p;
             }
-            let place = operands[j];
-            let op = place.operand;
-            p = put_operand(out, p, types, instr.scale, start, t, op);
+            p = put_operand(out, p, types, instr.scale, start, t, operands[j].operand);
             j += 1;
         }
         before = t;
-        k += 1;
     }
     p
 }
@@ -279,14 +259,12 @@ fn put_operand(
 fn put_number(out: &mut [u8], at: usize, n: u64, w: usize) -> usize
     ensures { Put out.old at (le_bytes (min w 8) n) out.new result }
 {
-    let m = text::min(w, 8);
+    let m = w.min(8);
     let mut p = text::saturating_add(at, 0);
     let mut v = n;
-    let mut k: usize = 0;
-    while k < m {
+    for k in 0..m {
         p = text::put_byte(out, p, (v % 256) as u8);
-        v = v / 256;
-        k += 1;
+        v /= 256;
     }
     p
 }
@@ -295,17 +273,7 @@ fn put_number(out: &mut [u8], at: usize, n: u64, w: usize) -> usize
 fn low_bytes(n: u64, w: usize) -> u64
     ensures { result ≡ n % 256 ^ min w 8 }
 {
-    match w {
-        0 => 0,
-        1 => n % 256,
-        2 => n % 65536,
-        3 => n % 16777216,
-        4 => n % 4294967296,
-        5 => n % 1099511627776,
-        6 => n % 281474976710656,
-        7 => n % 72057594037927936,
-        _ => n,
-    }
+    if w < 8 { n % 256u64.pow(w as u32) } else { n }
 }
 
 // The number that stands for an operand.
@@ -331,16 +299,8 @@ fn count_of(op: Operand) -> u32
     ensures { result ≡ count_of op }
 {
     match op {
-        Operand::Nothing => 0,
-        Operand::Reg(_) => 0,
         Operand::RegList { first: _, count } => count,
-        Operand::Imm(_) => 0,
-        Operand::Idx(_) => 0,
-        Operand::Flag8(_) => 0,
-        Operand::Flag16(_) => 0,
-        Operand::RuntimeId(_) => 0,
-        Operand::IntrinsicId(_) => 0,
-        Operand::Raw { ty: _, value: _ } => 0,
+        _ => 0,
     }
 }
 

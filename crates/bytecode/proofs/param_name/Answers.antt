@@ -7,10 +7,6 @@ use Rattle.text.proofs.Put.{then}
 use Rattle.bytecode.specs.Texts.{param_name}
 use Rattle.bytecode.proofs.param_name.Goals as goal
 
-pub returns-then-eq_i32 : goal.returns-then-eq_i32
-unfolding param_name
-returns-then-eq_i32 c = rw (sym (simp (to_z-of_z c.ranges.p) at c.eq_i32.ensures) ∙ c.if-eq_i32.true) c.put_bytes.ensures
-
 pub returns : goal.returns
 unfolding param_name
 returns c =

@@ -18,19 +18,6 @@ test_is f r t x y p q e h = sym (simp (to_z-of_z {w = w32} {z = x} p, to_z-of_z 
 negative_is : (r t : Bool) (x v : ℤ) → SFits w32 x → SFits w64 v → v ≡ to_z w32 (of_z w32 x) → r ≡ negative (to_z w64 (of_z w64 v)) → r ≡ t → negative x ≡ t
 negative_is r t x v p q e g h = sym (g ∙ ap negative (to_z-of_z {w = w64} {z = v} q ∙ e ∙ to_z-of_z {w = w32} {z = x} p)) ∙ h
 
-pub returns-then-eq_i32 : goal.returns-then-eq_i32
-unfolding reg_name
-returns-then-eq_i32 c =
-    let f : SFits w32 c.args.frame.context = search rules in
-    rw (test_is eq_z c.eq_i32.result _ c.args.index c.args.frame.context c.ranges.index f c.eq_i32.ensures c.if-eq_i32.true) c.put_bytes.ensures
-
-pub returns-then-eq_i32-2 : goal.returns-then-eq_i32-2
-unfolding reg_name
-returns-then-eq_i32-2 c =
-    let f : SFits w32 c.args.frame.context = search rules in
-    let g : SFits w32 c.args.frame.closure = search rules in
-    rw (test_is eq_z c.eq_i32.result _ c.args.index c.args.frame.context c.ranges.index f c.eq_i32.ensures c.if-eq_i32.false, test_is eq_z c.eq_i32-2.result _ c.args.index c.args.frame.closure c.ranges.index g c.eq_i32-2.ensures c.if-eq_i32-2.true) c.put_bytes-then-eq_i32-2.ensures
-
 pub returns-then-is_negative : goal.returns-then-is_negative
 unfolding reg_name
 returns-then-is_negative c =

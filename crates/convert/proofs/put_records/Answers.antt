@@ -11,7 +11,7 @@ use Rattle.convert.proofs.put_records.Goals as goal
 pub loop-k-init : goal.loop-k-init
 loop-k-init c =
     let a = c.args in
-    (omega arith, rw sub-zero (up_to_none a.out.now 0 (joined (record_as a.to a.opcodes.now) 0 a.n) refl))
+    rw sub-zero (up_to_none a.out.now 0 (joined (record_as a.to a.opcodes.now) 0 a.n) refl)
 
 pub put_record-at-requires : goal.put_record-at-requires
 put_record-at-requires c = rw (← c.requires) c.loop-k-test.true
@@ -20,13 +20,13 @@ pub loop-k-preserved : goal.loop-k-preserved
 loop-k-preserved c =
     let a = c.args in
     let l = c.loop-k in
-    (omega arith, up_to_more (record_as a.to a.opcodes.now l.k) (joined (record_as a.to a.opcodes.now) (l.k + 1) (a.n - (l.k + 1))) (omega (arith, c.well_formed)) (joined_next (record_as a.to a.opcodes.now) a.n l.k c.loop-k-test.true) l.invariant.1 c.put_record-at.ensures)
+    up_to_more (record_as a.to a.opcodes.now l.k) (joined (record_as a.to a.opcodes.now) (l.k + 1) (a.n - (l.k + 1))) (omega (arith, c.well_formed)) (joined_next (record_as a.to a.opcodes.now) a.n l.k c.loop-k-test.true) l.invariant c.put_record-at.ensures
 
 pub shape_of-out : goal.shape_of-out
-shape_of-out c = up_to_kept c.loop-k.invariant.1
+shape_of-out c = up_to_kept c.loop-k.invariant
 
 pub returns : goal.returns
 returns c =
     let a = c.args in
     let l = c.loop-k in
-    up_to_all (joined_end (record_as a.to a.opcodes.now) a.n l.k c.loop-k-test.false) l.invariant.1
+    up_to_all (joined_end (record_as a.to a.opcodes.now) a.n l.k c.loop-k-test.false) l.invariant

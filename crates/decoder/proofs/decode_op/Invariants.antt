@@ -1,15 +1,12 @@
-use Rattle.decoder.specs.mirror.Steps.{run_ops, operands_at}
 use Prim.Native.Nat.{◌-◌, ◌≤◌, min}
 use mathlib.Core.Path.{◌≡◌}
 use Rattle.tables.specs.Records.{operand_count}
 use Rattle.flow.specs.Opcodes.{opcodes_of}
+use Rattle.decoder.specs.mirror.Steps.{run_ops, operands_at}
 use Rattle.decoder.proofs.Laws.{done_ops}
 use Rattle.decoder.proofs.decode_op.Given as goal
 
 abbrev pub invariant-loop-k : goal.invariant-loop-k
 invariant-loop-k l =
-    (l.n ≡ min (operand_count l.opcodes l.opcode) 8) × (l.k ≤ l.n) × (l.count ≤ l.k)
+    (l.n ≡ min (operand_count l.opcodes l.opcode) 8) × (l.count ≤ l.k)
     × (operands_at l.code (opcodes_of l.opcodes) l.types l.opcode l.scale l.reg_file_start l.at ≡ run_ops l.code (opcodes_of l.opcodes) l.types l.opcode l.scale l.reg_file_start (l.n - l.k) l.k (done_ops l.p l.count l.before l.slots))
-
-abbrev pub decreases-loop-k : goal.decreases-loop-k
-decreases-loop-k l = l.n - l.k

@@ -8,8 +8,5 @@ use Rattle.decoder.proofs.operands_size.Given as goal
 
 abbrev pub invariant-loop-k : goal.invariant-loop-k
 invariant-loop-k l =
-    (l.n ≡ min (operand_count l.opcodes l.opcode) 8) × (l.k ≤ l.n) × (l.size ≤ 16 * l.k)
+    (l.n ≡ min (operand_count l.opcodes l.opcode) 8) × (l.size ≤ 16 * l.k)
     × (size_from l.types l.scale 0 (codes_from (opcodes_of l.opcodes) l.opcode 0 l.n) ≡ l.size + size_from l.types l.scale l.before (codes_from (opcodes_of l.opcodes) l.opcode l.k (l.n - l.k)))
-
-abbrev pub decreases-loop-k : goal.decreases-loop-k
-decreases-loop-k l = l.n - l.k

@@ -16,7 +16,7 @@ use Rattle.function.specs.mirror.Function.{decoded_by}
 use Rattle.function.specs.declared.Function.{Function}
 use mathlib.Core.List.{List}
 use Rattle.disasm.proofs.Counts.{counted}
-use Rattle.disasm.proofs.Checking.{room_start, room_end, checked_refused, checked_end, checked_done}
+use Rattle.disasm.proofs.Checking.{and_is, room_start, room_end, checked_refused, checked_end, checked_done}
 use Rattle.disasm.proofs.check_lines.Goals as goal
 
 -- of what is decoded at a place: its extent ends behind the place and within the code
@@ -34,7 +34,7 @@ pub returns-in-Refused : goal.returns-in-Refused
 returns-in-Refused c = checked_refused _ _ _ _ c.loop-i.invariant c.extent_at-x.result (c.extent_at-x.ensures c.args.f.frame.reg_file_start) c.in-Refused.refusal c.in-Refused.is
 
 pub returns-in-End : goal.returns-in-End
-returns-in-End c = checked_end _ _ _ _ c.loop-i.invariant c.extent_at-x.result (c.extent_at-x.ensures c.args.f.frame.reg_file_start) c.in-End.is
+returns-in-End c = rw c.and.ensures (checked_end _ _ _ _ c.loop-i.invariant c.extent_at-x.result (c.extent_at-x.ensures c.args.f.frame.reg_file_start) c.in-End.is)
 
 pub overflow_sub-size : goal.overflow_sub-size
 overflow_sub-size c =
@@ -65,11 +65,11 @@ loop-i-preserved c =
     let most = counted a.code.now ops a.types.now c.loop-i.i a.f.frame.reg_file_start a.f.wide a.f.extra in
     let count = c.operand_count-count.ensures ∙ ap (λ (y : Extent). operand_count a.opcodes.now y.opcode) is in
     checked_done _ _ _ _ c.loop-i.invariant x is {n = min c.operand_count-count.result 8} c.in-Done.is q.0 q.1 offset (omega (arith, most, count))
-    c.flow_of-flow.ensures c.table_at-table.ensures (c.first_refusal-check.ensures ∙ ap (first_refusal c.loop-i.check) c.table_check.ensures)
+    c.flow_of-flow.ensures c.table_at-table.ensures (c.and-check.ensures ∙ and_is c.loop-i.check c.table_check.result ∙ ap (first_refusal c.loop-i.check) c.table_check.ensures)
     (c.saturating_add-p.ensures ∙ ap (λ (n : ℕ). place (c.loop-i.p + n)) c.line_room-room.ensures)
 
 pub returns : goal.returns
 returns c =
     let a = c.args in
     let e : c.loop-i.i ≡ length a.code.now = omega (arith, c.loop-i.invariant.going.pass.inside, c.loop-i-test.false) in
-    room_end _ _ _ _ c.loop-i.invariant (decode_end a.code.now (opcodes_of a.opcodes.now) a.types.now a.f.frame.reg_file_start a.f.wide a.f.extra c.loop-i.i e)
+    rw c.and-2.ensures (room_end _ _ _ _ c.loop-i.invariant (decode_end a.code.now (opcodes_of a.opcodes.now) a.types.now a.f.frame.reg_file_start a.f.wide a.f.extra c.loop-i.i e))

@@ -6,10 +6,11 @@ use Rattle.flow.specs.Opcodes.{opcodes_of}
 use Rattle.decoder.specs.declared.Decoded.{Decoded}
 use Rattle.decoder.specs.Decode.{decode_at}
 use Rattle.decoder.specs.Listed.{Listing, list_from}
-use Rattle.targets.specs.declared.Pool.{Pool}
+use Rattle.std.specs.Prelude.{Option}
+use Rattle.targets.specs.declared.PoolSlots.{PoolSlots}
 use Rattle.function.specs.declared.Function.{Function}
 
-abbrev pub function_of : List ℕ → Layout → Pool → ℤ → Function
+abbrev pub function_of : List ℕ → Layout → Option PoolSlots → ℤ → Function
 function_of opcodes l p params = record {
   ts = l.tagged_size;
   pool = p;

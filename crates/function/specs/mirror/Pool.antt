@@ -4,16 +4,14 @@ use Rattle.store.specs.declared.Object.{Object}
 use Rattle.store.specs.Records.{object_of}
 use Rattle.serializer.specs.mirror.Search.{slot_searched}
 use Rattle.layout.specs.declared.Layout.{Layout}
-use Rattle.targets.specs.declared.Pool.{Pool}
-use Rattle.targets.specs.declared.Pool.TheVariants as pool
-use Rattle.function.specs.declared.PoolObject.{PoolObject}
-use Rattle.function.specs.declared.PoolObject.TheVariants as pool-object
+use Rattle.std.specs.Prelude.{Option, Some, None}
+use Rattle.targets.specs.declared.PoolSlots.{PoolSlots}
 use Rattle.function.specs.Pool.{pool_by}
 
 -- of an object, its slots and a layout
-abbrev pub pool_found : List ℕ → List ℕ → Layout → Object → Pool
+abbrev pub pool_found : List ℕ → List ℕ → Layout → Object → Option PoolSlots
 pool_found objects slots l o = pool_by objects (slot_searched slots o.first o.count l.pool_slot)
 
-abbrev pub lent_found : List ℕ → List ℕ → Layout → PoolObject → Pool
-lent_found objects slots l pool-object.Nothing = pool.Nothing
-lent_found objects slots l (pool-object.Object n) = pool_found objects slots l (object_of objects n)
+abbrev pub lent_found : List ℕ → List ℕ → Layout → Option ℕ → Option PoolSlots
+lent_found objects slots l None = None
+lent_found objects slots l (Some n) = pool_found objects slots l (object_of objects n)

@@ -6,12 +6,11 @@
 --     Grown q k M' q' k' P the queue has grown, by entries of which P holds, and every p with P p is now in it
 --     Lowest g q lo hi f   f is the lowest entry in lo .. hi that exits, or none if none does
 use Rattle.std.specs.Prelude.{ℕ, ◌+◌, ◌≤◌, ◌<◌, ◌≡◌, true, false, cond, List, [], ◌∷◌, leb, get_or, length}
-use mathlib.Core.Option.{Option, none, some}
-use Rattle.std.proofs.Math.ListN.{get_elem?}
+use Rattle.std.specs.Prelude.{Option, None, Some, slice_get}
 use Rattle.graph.specs.Graph.{Graph, Step, Succ, exits}
 
 abbrev pub step_of : Graph → ℕ → ℕ → Option Step
-step_of g o k = get_elem? (g.steps o) k
+step_of g o k = slice_get (g.steps o) k
 
 pub record In (q : List ℕ) (k p : ℕ) : Type 0 where
   pub at : ℕ
@@ -54,10 +53,10 @@ pub record LowestAt (g : Graph) (q : List ℕ) (lo hi o : ℕ) : Type 0 where
   pub least : (i : ℕ) → lo ≤ i → i < hi → exits g (get_or q i 0) ≡ true → o ≤ get_or q i 0
 
 abbrev pub Lowest : Graph → List ℕ → ℕ → ℕ → Option ℕ → Type 0
-Lowest g q lo hi (some o) = LowestAt g q lo hi o
-Lowest g q lo hi none = Quiet g q lo hi
+Lowest g q lo hi (Some o) = LowestAt g q lo hi o
+Lowest g q lo hi None = Quiet g q lo hi
 
 -- the lower of what was found and o
 abbrev pub lower_of : Option ℕ → ℕ → Option ℕ
-lower_of (some p) o = cond (leb p o) (some p) (some o)
-lower_of none o = some o
+lower_of (Some p) o = cond (leb p o) (Some p) (Some o)
+lower_of None o = Some o

@@ -1,10 +1,5 @@
-use Prim.Native.Nat.{◌-◌}
-use lib.ListN.{length}
 use Rattle.handlers.proofs.Words.{Catching}
 use Rattle.handlers.proofs.catch_all.Given as goal
 
 abbrev pub invariant-loop-o : goal.invariant-loop-o
 invariant-loop-o l = Catching l.code l.opcodes l.handlers l.blocks l.wide l.extra l.initial.catches l.catches l.o
-
-abbrev pub decreases-loop-o : goal.decreases-loop-o
-decreases-loop-o l = length l.code - l.o

@@ -1,12 +1,7 @@
-use Prim.Native.Nat.{◌-◌, ◌≤◌}
 use mathlib.Core.Path.{◌≡◌}
 use lib.ListN.{length}
-use Rattle.handlers.specs.Handlers.{handler_count}
 use Rattle.handlers.specs.mirror.Catches.{Painted}
 use Rattle.handlers.proofs.paint_all.Given as goal
 
 abbrev pub invariant-loop-r : goal.invariant-loop-r
-invariant-loop-r l = (l.r ≤ handler_count l.handlers) × (length l.places ≡ length l.initial.places) × (length l.blocks ≡ length l.initial.blocks) × (Painted l.handlers l.initial.places l.initial.blocks 0 → Painted l.handlers l.places l.blocks l.r)
-
-abbrev pub decreases-loop-r : goal.decreases-loop-r
-decreases-loop-r l = handler_count l.handlers - l.r
+invariant-loop-r l = (length l.places ≡ length l.initial.places) × (length l.blocks ≡ length l.initial.blocks) × (Painted l.handlers l.initial.places l.initial.blocks 0 → Painted l.handlers l.places l.blocks l.r)

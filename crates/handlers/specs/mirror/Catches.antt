@@ -3,14 +3,14 @@
 -- where no instruction starts, if that is lower. On the way it holds record numbers, each one more: of places, and of blocks of 256 places that a
 -- record holds whole, so that a record costs its blocks and at most two of them place by place.
 use Rattle.std.specs.Prelude.{ℕ, zero, suc, ◌+◌, ◌/◌, ◌≤◌, ◌<◌, min, max, ◌≡◌, ◌⊎◌, Bool, cond, ◌&&◌, List, eqb, leb, ltb, length, get_or}
-use mathlib.Core.Option.{Option, none, some}
+use Rattle.std.specs.Prelude.{Option, None, Some}
 use Rattle.flow.specs.Flow.{is_return}
 use Rattle.handlers.specs.Handlers.{handler_offset, is_held, handler_at}
 
 -- ---- words
 abbrev pub handler_word : Option ℕ → ℕ
-handler_word none = 0
-handler_word (some t) = suc (min t 65536)
+handler_word None = 0
+handler_word (Some t) = suc (min t 65536)
 
 -- of an instruction at o, by whether its opcode returns
 unfoldable pub catch_word : List ℕ → Bool → ℕ → ℕ

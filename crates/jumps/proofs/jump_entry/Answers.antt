@@ -4,9 +4,10 @@ use Rattle.flow.specs.Opcodes.{opcodes_of}
 use Rattle.layout.specs.declared.Layout.{Layout}
 use Rattle.function.specs.Files.{lent_files}
 use Rattle.jumps.specs.Numbers.{entry_numbers}
+use Rattle.std.specs.Prelude.{Option}
+use Rattle.targets.specs.declared.PoolSlots.{PoolSlots}
 use Rattle.serializer.specs.declared.Elem.{Elem}
 use Rattle.decoder.specs.declared.Decoded.{Decoded}
-use Rattle.targets.specs.declared.Pool.{Pool}
 use Rattle.targets.specs.Targets.{found, here}
 use Rattle.targets.specs.mirror.Search.{pool_searched}
 use Rattle.jumps.specs.declared.TableAnswer.{TableAnswer}
@@ -17,9 +18,9 @@ use Rattle.function.specs.Code.{decoded_at}
 use Rattle.function.proofs.Searched.{lent_pool_lem, lent_elems}
 use Rattle.jumps.proofs.jump_entry.Goals as goal
 
-pub returns-in-Refused : goal.returns-in-Refused
+pub returns-in-Err : goal.returns-in-Err
 unfolding entry_call table_call
-returns-in-Refused c = rw (← c.check_lent.ensures, c.in-Refused.is)
+returns-in-Err c = rw (← c.check_lent.ensures, c.in-Err.is)
 
 pub returns-in-Ok : goal.returns-in-Ok
 unfolding entry_call table_call
@@ -31,13 +32,13 @@ returns-in-Ok c =
     let p = c.lent_pool-pool.ensures ∙ ap (λ (x : Layout). lent_found f.objects f.slots x w) c.layout_of-shape.ensures in
     let decoded = c.decode_unchecked-d.ensures in
     let t = c.table_of-table.ensures
-    ∙ ap (λ (x : Pool). table_of (opcodes_of f.opcodes) (found x) c.decode_unchecked-d.result a.at) (lent_pool_lem f w a.code.now ok p)
+    ∙ ap (λ (x : Option PoolSlots). table_of (opcodes_of f.opcodes) (found x) c.decode_unchecked-d.result a.at) (lent_pool_lem f w a.code.now ok p)
     ∙ ap (λ (x : Decoded). table_of (opcodes_of f.opcodes) (found (lent_pool f w)) x a.at) decoded in
     let from = c.here-from.ensures ∙ ap (λ (x : Decoded). here x.instr) decoded in
     rw ok
     (ap (entry_numbers a.at)
     (c.entry_of.ensures
     ∙ ap (λ (x : Layout). entry_of (pool_searched f.slots f.payload x.tagged_size c.lent_pool-pool.result) c.here-from.result c.table_of-table.result a.k) c.layout_of-shape.ensures
-    ∙ ap (λ (x : ℕ → Elem). entry_of x c.here-from.result c.table_of-table.result a.k) (lent_elems f w a.code.now ok p)
+    ∙ ap (λ (x : ℕ → Option Elem). entry_of x c.here-from.result c.table_of-table.result a.k) (lent_elems f w a.code.now ok p)
     ∙ ap (λ (x : ℕ). entry_of (lent_elem f w) x c.table_of-table.result a.k) from
     ∙ ap (λ (x : TableAnswer). entry_of (lent_elem f w) (here (decoded_at f a.code.now a.at).instr) x a.k) t))

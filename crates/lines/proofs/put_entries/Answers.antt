@@ -10,10 +10,7 @@ use Rattle.lines.proofs.Laws.{entries_next, entries_end}
 use Rattle.lines.proofs.put_entries.Goals as goal
 
 pub loop-k-init : goal.loop-k-init
-loop-k-init c = (omega arith, refl, refl, λ b. rw sub-zero (up_to_none c.args.out.now c.args.at _ c.saturating_add-p.ensures))
-
-pub overflow_add-k : goal.overflow_add-k
-overflow_add-k c = omega (arith, c.loop-k-test.true, c.well_formed)
+loop-k-init c = (refl, λ b. rw sub-zero (up_to_none c.args.out.now c.args.at _ c.saturating_add-p.ensures))
 
 pub loop-k-preserved : goal.loop-k-preserved
 loop-k-preserved c =
@@ -22,20 +19,18 @@ loop-k-preserved c =
     let n = a.e.count in
     let el = elems_of a.slots.now a.payload.now a.f in
     let j = c.jump_entry_in-entry.ensures in (
-      omega arith,
-      refl,
-      c.put_entry-p.auto.out ∙ l.invariant.2,
+      c.put_entry-p.auto.out ∙ l.invariant.0,
       λ b.
           rw (c.shown_after-shown.ensures ∙ ap (shown_after l.shown) (j b)) (up_to_more (entry_text l.shown (entry_at el a.here a.e l.k)) (entries_from el a.here a.e (shown_after l.shown (entry_at el a.here a.e l.k)) (l.k + 1) (n - (l.k + 1)))
-          (omega (arith, c.well_formed)) (entries_next el a.here a.e l.shown n l.k c.loop-k-test.true) (l.invariant.3 b) (rw (j b) at c.put_entry-p.ensures)),
+          (omega (arith, c.well_formed)) (entries_next el a.here a.e l.shown n l.k (omega arith)) (l.invariant.1 b) (rw (j b) at c.put_entry-p.ensures)),
     )
 
 pub shape_of-out : goal.shape_of-out
-shape_of-out c = c.loop-k.invariant.2
+shape_of-out c = c.loop-k.invariant.0
 
 pub returns : goal.returns
 returns c = λ b.
     let a = c.args in
     let l = c.loop-k in
     let el = elems_of a.slots.now a.payload.now a.f in
-    up_to_all (entries_end el a.here a.e l.shown a.e.count l.k c.loop-k-test.false) (l.invariant.3 b)
+    up_to_all (entries_end el a.here a.e l.shown a.e.count l.k (omega arith)) (l.invariant.1 b)

@@ -1,4 +1,4 @@
-use Prim.Native.Nat.{◌-◌, ◌≤◌}
+use Prim.Native.Nat.{◌-◌}
 use mathlib.Core.Path.{◌≡◌}
 use mathlib.Core.Bool.{false}
 use lib.ListN.{length}
@@ -10,8 +10,5 @@ use Rattle.lines.proofs.put_entries.Given as goal
 
 abbrev pub invariant-loop-k : goal.invariant-loop-k
 invariant-loop-k l =
-    (l.k ≤ l.n) × (l.n ≡ l.e.count) × (length l.out ≡ length l.initial.out)
+    (length l.out ≡ length l.initial.out)
     × (PoolBlocked l.slots l.f.ts l.f.pool l.blocks → PutUpTo l.initial.out l.at (entries_from (elems_of l.slots l.payload l.f) l.here l.e false 0 l.n) (entries_from (elems_of l.slots l.payload l.f) l.here l.e l.shown l.k (l.n - l.k)) l.out l.p)
-
-abbrev pub decreases-loop-k : goal.decreases-loop-k
-decreases-loop-k l = l.n - l.k

@@ -7,13 +7,13 @@ use Rattle.text.proofs.Put.{then}
 use borrow.Author.Rules.{rules}
 use Rattle.lines.proofs.put_entry.Goals as goal
 
-pub returns-in-Skipped : goal.returns-in-Skipped
-returns-in-Skipped c = rw c.in-Skipped.is (record { text = refl; end = c.saturating_add.ensures })
+pub returns-in-None : goal.returns-in-None
+returns-in-None c = rw c.in-None.is (record { text = refl; end = c.saturating_add.ensures })
 
-pub returns-in-Shown : goal.returns-in-Shown
-returns-in-Shown c =
+pub returns-in-Some : goal.returns-in-Some
+returns-in-Some c =
     let h = c.well_formed in
-    let f : SFits w32 c.in-Shown.case = search rules in
-    rw c.in-Shown.is
+    let f : SFits w32 c.in-Some.c.case = search rules in
+    rw c.in-Some.is
     (then (omega (arith, h)) (then (omega (arith, h)) (then (omega (arith, h)) (then (omega (arith, h))
     c.put_comma-p.ensures c.put_byte-p.ensures) (simp (to_z-of_z f) at c.put_signed32-p.ensures)) c.put_bytes-p.ensures) c.put_decimal.ensures)

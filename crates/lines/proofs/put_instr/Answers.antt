@@ -2,7 +2,7 @@ use Rattle.text.specs.Put.{Put}
 use Rattle.flow.specs.Opcodes.{opcodes_of}
 use Rattle.lines.specs.mirror.Parts.{instr_by}
 use Rattle.text.proofs.Put.{kept, then}
-use Prim.Native.Nat.{◌-◌, ◌+◌}
+use Prim.Native.Nat.{◌-◌, ◌+◌, ◌<◌}
 use mathlib.Core.Path.{◌≡◌, refl}
 use mathlib.Core.List.{◌++◌}
 use native.Mathlib.Omega.{arith}
@@ -22,11 +22,7 @@ use Rattle.lines.proofs.Laws.{operands_next, operands_end}
 use Rattle.lines.proofs.put_instr.Goals as goal
 
 pub loop-k-init : goal.loop-k-init
-loop-k-init c = (
-  omega arith,
-  omega (arith, c.min-n.ensures),
-  λ i e m. rw sub-zero (up_to_none _ _ _ (omega (arith, c.instr_name-p.ensures.end))),
-)
+loop-k-init c = λ i e m. rw sub-zero (up_to_none _ _ _ (omega (arith, c.instr_name-p.ensures.end)))
 
 pub loop-k-preserved : goal.loop-k-preserved
 loop-k-preserved c =
@@ -34,19 +30,16 @@ loop-k-preserved c =
     let a = s.args in
     let l = c.loop-k in
     let n = c.min-n.result in
-    let t = c.loop-k-test.true in
+    let t : l.k < n = omega arith in
     let names = names_of a.types.now a.runtime.now a.intrinsic.now in
-    let f : SFits w32 a.f.params = record { sfits = c.type_inv.f.1.1.1.0.1 } in (
-      omega (arith, t),
-      l.invariant.1,
-      λ i e m.
-          let op : (get_or a.instr.operands l.k (record { operand = Nothing })).operand ≡ operand_of i l.k = rw (← e) (operand_some i l.k (omega (arith, t))) in
-          let r = simp (to_z-of_z f) at (rw op at c.render_operand-p.ensures) in
-          let u = before l.k ++ operand_text names a.f.frame a.f.params (operand_of i l.k) in
-          up_to_more u (operands_by names a.f.frame a.f.params i (l.k + 1) (n - (l.k + 1))) (omega (arith, s.well_formed, kept c.put_place-p.ensures, kept c.instr_name-p.ensures))
-          (operands_next names a.f.frame a.f.params i n l.k t) (l.invariant.2 i e m)
-          (then (omega (arith, s.well_formed, kept c.put_place-p.ensures, kept c.instr_name-p.ensures, up_to_kept (l.invariant.2 i e m))) c.put_before-p.ensures r),
-    )
+    let f : SFits w32 a.f.params = record { sfits = c.type_inv.f.1.1.1.0.1 } in
+    λ i e m.
+    let op : (get_or a.instr.operands l.k (record { operand = Nothing })).operand ≡ operand_of i l.k = rw (← e) (operand_some i l.k (omega (arith, t))) in
+    let r = simp (to_z-of_z f) at (rw op at c.render_operand-p.ensures) in
+    let u = before l.k ++ operand_text names a.f.frame a.f.params (operand_of i l.k) in
+    up_to_more u (operands_by names a.f.frame a.f.params i (l.k + 1) (n - (l.k + 1))) (omega (arith, s.well_formed, kept c.put_place-p.ensures, kept c.instr_name-p.ensures))
+    (operands_next names a.f.frame a.f.params i n l.k t) (l.invariant i e m)
+    (then (omega (arith, s.well_formed, kept c.put_place-p.ensures, kept c.instr_name-p.ensures, up_to_kept (l.invariant i e m))) c.put_before-p.ensures r)
 
 written : (c : goal.After-loop-k) → let a = c.args in
     Put a.out.now 0 (instr_by a.bytes.now (opcodes_of a.opcodes.now) (names_of a.types.now a.runtime.now a.intrinsic.now) a.f.frame a.f.params a.instr) c.loop-k.out c.loop-k.p
@@ -57,7 +50,7 @@ written c =
     let m = c.min-n.ensures in
     let names = names_of a.types.now a.runtime.now a.intrinsic.now in
     let head = then (omega (arith, s.well_formed)) c.put_place-p.ensures c.instr_name-p.ensures in
-    then (omega (arith, s.well_formed)) head (rw (← m) (up_to_all (operands_end names a.f.frame a.f.params a.instr c.min-n.result l.k c.loop-k-test.false) (l.invariant.2 a.instr refl m)))
+    then (omega (arith, s.well_formed)) head (rw (← m) (up_to_all (operands_end names a.f.frame a.f.params a.instr c.min-n.result l.k (omega arith)) (l.invariant a.instr refl m)))
 
 pub shape_of-out : goal.shape_of-out
 shape_of-out c = kept (written c)

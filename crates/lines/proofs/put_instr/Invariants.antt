@@ -1,4 +1,4 @@
-use Prim.Native.Nat.{◌-◌, ◌≤◌, min}
+use Prim.Native.Nat.{◌-◌, min}
 use mathlib.Core.Path.{◌≡◌}
 use Rattle.decoder.specs.declared.Instr.{Instr}
 use Rattle.lines.specs.Line.{operands_by}
@@ -8,9 +8,6 @@ use Rattle.lines.proofs.put_instr.Given as goal
 
 abbrev pub invariant-loop-k : goal.invariant-loop-k
 invariant-loop-k l =
-    (l.k ≤ l.n) × (l.n ≤ 8) × ((i : Instr) → i.operands ≡ l.operands → l.n ≡ min i.count 8
+    (i : Instr) → i.operands ≡ l.operands → l.n ≡ min i.count 8
     → PutUpTo l.initial.out l.initial.p (operands_by (names_of l.types l.runtime l.intrinsic) l.f.frame l.f.params i 0 l.n)
-    (operands_by (names_of l.types l.runtime l.intrinsic) l.f.frame l.f.params i l.k (l.n - l.k)) l.out l.p)
-
-abbrev pub decreases-loop-k : goal.decreases-loop-k
-decreases-loop-k l = l.n - l.k
+    (operands_by (names_of l.types l.runtime l.intrinsic) l.f.frame l.f.params i l.k (l.n - l.k)) l.out l.p

@@ -3,11 +3,18 @@ use native.Mathlib.Omega.{arith}
 use Rattle.text.proofs.Put.{then}
 use Rattle.lines.proofs.put_table.Goals as goal
 
-pub returns-in-Nothing : goal.returns-in-Nothing
-returns-in-Nothing c = λ b. rw c.in-Nothing.is (record { text = refl; end = c.saturating_add.ensures })
+pub returns-in-Ok-None : goal.returns-in-Ok-None
+returns-in-Ok-None c = λ b.
+    let h = c.in-Ok-None.is in
+    let g = rw h at c.in-Ok-None.field-0-is in
+    rw (h, g) (record { text = refl; end = c.saturating_add.ensures })
 
-pub returns-in-Refused : goal.returns-in-Refused
-returns-in-Refused c = λ b. rw c.in-Refused.is (record { text = refl; end = c.saturating_add-in-Refused.ensures })
+pub returns-in-Err : goal.returns-in-Err
+returns-in-Err c = λ b. rw c.in-Err.is (record { text = refl; end = c.saturating_add-in-Err.ensures })
 
-pub returns-in-At : goal.returns-in-At
-returns-in-At c = λ b. let h = c.well_formed in rw c.in-At.is (then (omega (arith, h)) (then (omega (arith, h)) c.put_bytes-p.ensures (c.put_entries-p.ensures b)) c.put_bytes.ensures)
+pub returns-in-Ok-Some : goal.returns-in-Ok-Some
+returns-in-Ok-Some c = λ b.
+    let h = c.in-Ok-Some.is in
+    let g = rw h at c.in-Ok-Some.field-0-is in
+    let f = c.well_formed in
+    rw (h, g) (then (omega (arith, f)) (then (omega (arith, f)) c.put_bytes-p.ensures (c.put_entries-p.ensures b)) c.put_bytes.ensures)

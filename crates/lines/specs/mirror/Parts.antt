@@ -7,6 +7,7 @@ use Rattle.decoder.specs.declared.Instr.{Instr}
 use Rattle.flow.specs.declared.Flow.{Flow}
 use Rattle.flow.specs.Opcodes.{Opcodes}
 use Rattle.bytecode.specs.Texts.{NameFiles, instr_name}
+use Rattle.std.specs.Prelude.{Option}
 use Rattle.serializer.specs.declared.Elem.{Elem}
 use Rattle.targets.specs.Targets.{here, jump_target, jump_table}
 use Rattle.lines.specs.Line.{operands_by, target_text, table_text}
@@ -21,5 +22,5 @@ instr_by bytes ops names frame params i =
     (place_by bytes i.offset ++ instr_name ops i.opcode i.scale) ++ operands_by names frame params i 0 (min i.count 8)
 
 -- the target, the entries and the line's end
-abbrev pub goes_by : (ℕ → Elem) → Bool → Flow → Instr → List ℕ
+abbrev pub goes_by : (ℕ → Option Elem) → Bool → Flow → Instr → List ℕ
 goes_by el pooled flow i = target_text (jump_target el flow i) ++ table_text el (here i) (jump_table pooled flow i) ++ ascii "\n"

@@ -7,6 +7,7 @@ use Rattle.refusal.specs.Check.{refusal_at}
 use Rattle.operand.specs.Operand.{is_list, interpret}
 use Rattle.operand.specs.declared.Step.{Step}
 use Rattle.operand.specs.declared.Step.TheVariants.{Skip, Short, Read}
+use Rattle.refusal.specs.declared.Fault.TheVariants as fault
 
 -- a RegCount (8) right after a list, which has read it
 unfoldable pub is_counted : ℕ → ℕ → Bool
@@ -28,6 +29,6 @@ operand_at code types t before scale at start =
     (cond (is_list t)
     (cond (leb (at + w + cw) (length code))
     (Read (interpret t v w (value_at code (at + w) cw % 2 ^ 32) start) (at + w + cw))
-    (Short (refusal_at 15 (at + w))))
+    (Short (refusal_at fault.EndsInCount (at + w))))
     (Read (interpret t v w 0 start) (at + w)))
-    (Short (refusal_at 14 at)))
+    (Short (refusal_at fault.EndsInOperand at)))

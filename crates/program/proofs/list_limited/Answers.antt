@@ -1,4 +1,5 @@
 use mathlib.Core.Path.{refl, sym, ◌∙◌}
+use Rattle.std.proofs.lemmas.Result.{err_from_is_err_and}
 use Rattle.text.proofs.Numbers.{written_by}
 use Rattle.function.specs.Files.{Files}
 use Rattle.program.specs.Printed.{limited}
@@ -11,10 +12,12 @@ returns-then-within_limit c =
     let f : Files = record { opcodes = a.opcodes.now; types = a.types.now; runtime = a.runtime.now; intrinsic = a.intrinsic.now; layout = a.layout.now; objects = a.objects.now; slots = a.slots.now; payload = a.payload.now } in
     rw (within f a.out.now (sym c.within_limit.ensures ∙ c.if-within_limit.true)) (written_by c.list.ensures)
 
-pub returns-in-Ok : goal.returns-in-Ok
+pub returns-in_err-check_table : goal.returns-in_err-check_table
 unfolding limited
-returns-in-Ok c = rw (sym c.within_limit.ensures ∙ c.if-within_limit.false, sym c.check_table.ensures ∙ c.in-Ok.is) (refl, refl)
+returns-in_err-check_table c =
+    let p = err_from_is_err_and c.from_residual.result c.from_residual.ensures.1 in
+    rw (p.1, p.2) (rw (sym c.within_limit.ensures ∙ c.if-within_limit.false, sym c.check_table.ensures ∙ c.in_err-check_table.was) (refl, refl))
 
-pub returns-in-Refused : goal.returns-in-Refused
+pub returns : goal.returns
 unfolding limited
-returns-in-Refused c = rw (sym c.within_limit.ensures ∙ c.if-within_limit.false, sym c.check_table.ensures ∙ c.in-Refused.is) (refl, refl)
+returns c = rw (sym c.within_limit.ensures ∙ c.if-within_limit.false, sym c.check_table.ensures ∙ c.in_ok-check_table.was) (refl, refl)

@@ -7,4 +7,5 @@ pub returns : goal.returns
 unfolding refusal_text
 returns c =
     let g = c.well_formed in
-    then (omega (arith, g)) (then (omega (arith, g)) (then (omega (arith, g)) (then (omega (arith, g)) c.put_bytes-p.ensures c.put_decimal-p.ensures) c.put_bytes-p-2.ensures) c.put_decimal-p-2.ensures) c.put_byte.ensures
+    rw (← c.number.ensures)
+    (then (omega (arith, g)) (then (omega (arith, g)) (then (omega (arith, g)) (then (omega (arith, g)) c.put_bytes-p.ensures c.put_decimal-p.ensures) c.put_bytes-p-2.ensures) c.put_decimal-p-2.ensures) c.put_byte.ensures)

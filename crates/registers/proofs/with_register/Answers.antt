@@ -1,20 +1,16 @@
-use mathlib.Core.Path.{sym, ◌∙◌}
-use mir.Syntax.{w64}
-use Rattle.registers.proofs.Laws.{sign, counts, only, grows, stays}
+use Rattle.std.proofs.Common.{◌≡◌, max, Some, ap, sym, ◌∙◌, arith, w64}
+use Rattle.registers.specs.Registers.{larger}
+use Rattle.registers.proofs.Laws.{counted}
 use borrow.Author.Rules.{sfits_of}
 use Rattle.registers.proofs.with_register.Goals as goal
 
-pub returns-in_default : goal.returns-in_default
-returns-in_default c =
-    let e = counts c.args.best c.args.index c.bits32-n.result c.ranges.index (sym c.if-is_negative.false ∙ sign c.args.index c.wide.result c.ranges.index (sfits_of {w = w64} c.wide.type_inv) c.wide.ensures c.is_negative.ensures) c.bits32-n.ensures in
-    only c.args.best c.args.index c.bits32-n.result e c.in_default.is
+pub returns-in-Some : goal.returns-in-Some
+returns-in-Some c =
+    let e = counted c.args.best c.args.index c.wide.result c.bits32-n.result c.ranges.index (sfits_of {w = w64} c.wide.type_inv) c.wide.ensures c.is_negative.ensures c.if-is_negative.false c.bits32-n.ensures in
+    let q : c.max.result ≡ max c.in-Some.m c.bits32-n.result = omega arith in
+    ap Some q ∙ ap (λ b. larger b c.bits32-n.result) (sym c.in-Some.is) ∙ e
 
-pub returns-then-m-n : goal.returns-then-m-n
-returns-then-m-n c =
-    let e = counts c.args.best c.args.index c.bits32-n.result c.ranges.index (sym c.if-is_negative.false ∙ sign c.args.index c.wide.result c.ranges.index (sfits_of {w = w64} c.wide.type_inv) c.wide.ensures c.is_negative.ensures) c.bits32-n.ensures in
-    grows c.args.best c.args.index c.bits32-n.result e c.in-Register.m c.in-Register.is c.if-m-n.true
-
-pub returns-else-m-n : goal.returns-else-m-n
-returns-else-m-n c =
-    let e = counts c.args.best c.args.index c.bits32-n.result c.ranges.index (sym c.if-is_negative.false ∙ sign c.args.index c.wide.result c.ranges.index (sfits_of {w = w64} c.wide.type_inv) c.wide.ensures c.is_negative.ensures) c.bits32-n.ensures in
-    stays c.args.best c.args.index c.bits32-n.result e c.in-Register.m c.in-Register.is c.if-m-n.false
+pub returns-in-None : goal.returns-in-None
+returns-in-None c =
+    let e = counted c.args.best c.args.index c.wide.result c.bits32-n.result c.ranges.index (sfits_of {w = w64} c.wide.type_inv) c.wide.ensures c.is_negative.ensures c.if-is_negative.false c.bits32-n.ensures in
+    ap (λ b. larger b c.bits32-n.result) (sym c.in-None.is) ∙ e

@@ -7,16 +7,14 @@ use Rattle.graph.specs.mirror.Queue.{Lowest}
 use Rattle.graph.proofs.Queues.{held-le}
 use Rattle.graph.proofs.Walks.{level_start, level_next, level_leaves, level_closed}
 use Rattle.targets.specs.mirror.Search.{pool_searched}
-use Rattle.search.specs.declared.Found.{Found}
-use Rattle.search.specs.declared.Found.TheVariants as found_case
-use Rattle.search.specs.mirror.Kept.{found_as}
+use Rattle.std.specs.Prelude.{Option, Some, None}
 use Rattle.search.proofs.Laws.{inside}
 use Rattle.search.proofs.levels.Goals as goal
 
 -- the scan's answer, where an arm says that nothing was found
-none : (g : Graph) (q : List ℕ) (lo hi : ℕ) (r : Found) → ((o : ℕ) → r ≡ found_case.At o → ⊥) → Lowest g q lo hi (found_as r) → Lowest g q lo hi (found_as found_case.Nothing)
-none g q lo hi (found_case.At o) h l = absurd (h o refl)
-none g q lo hi found_case.Nothing h l = l
+none : (g : Graph) (q : List ℕ) (lo hi : ℕ) (r : Option ℕ) → ((o : ℕ) → r ≡ Some o → ⊥) → Lowest g q lo hi r → Lowest g q lo hi None
+none g q lo hi (Some o) h l = absurd (h o refl)
+none g q lo hi None h l = l
 
 pub push-hi-requires : goal.push-hi-requires
 push-hi-requires c =
@@ -32,19 +30,19 @@ lowest-f-requires c = let l = c.loop-lo.invariant.0 in (l.order, omega (arith, h
 pub overflow_add-steps : goal.overflow_add-steps
 overflow_add-steps c = let l = c.loop-lo.invariant.0 in omega (arith, l.depth, l.order, held-le l.held, l.held.small)
 
-pub shape_of-marks-in-At : goal.shape_of-marks-in-At
-shape_of-marks-in-At c = c.loop-lo.invariant.1 ∙ sym c.requires.1
+pub shape_of-marks-in-Some : goal.shape_of-marks-in-Some
+shape_of-marks-in-Some c = c.loop-lo.invariant.1 ∙ sym c.requires.1
 
-pub shape_of-queue-in-At : goal.shape_of-queue-in-At
-shape_of-queue-in-At c = c.loop-lo.invariant.2 ∙ c.push-hi.auto.queue
+pub shape_of-queue-in-Some : goal.shape_of-queue-in-Some
+shape_of-queue-in-Some c = c.loop-lo.invariant.2 ∙ c.push-hi.auto.queue
 
-pub returns-in-At : goal.returns-in-At
-returns-in-At c = level_leaves c.loop-lo.invariant.0 c.in-At.ensures _
+pub returns-in-Some : goal.returns-in-Some
+returns-in-Some c = level_leaves c.loop-lo.invariant.0 c.in-Some.ensures _
 
 pub push_level-end-requires : goal.push_level-end-requires
 push_level-end-requires c =
     let l = c.loop-lo in
-    (l.invariant.0.held, l.invariant.1, l.invariant.0.order, none _ _ _ _ _ c.in_default.not-At c.lowest-f.ensures, c.requires.3)
+    (l.invariant.0.held, l.invariant.1, l.invariant.0.order, none _ _ _ _ _ c.in_default.not-Some c.lowest-f.ensures, c.requires.3)
 
 pub overflow_add-d : goal.overflow_add-d
 overflow_add-d c = let l = c.loop-lo.invariant.0 in omega (arith, l.depth, l.order, held-le l.held, l.held.small)
@@ -56,7 +54,7 @@ pub loop-lo-preserved : goal.loop-lo-preserved
 loop-lo-preserved c =
     let l = c.loop-lo in
     let p = c.push_level-end in (
-      level_next l.invariant.0 (none _ _ _ _ _ c.in_default.not-At c.lowest-f.ensures) c.loop-lo-test.true p.ensures,
+      level_next l.invariant.0 (none _ _ _ _ _ c.in_default.not-Some c.lowest-f.ensures) c.loop-lo-test.true p.ensures,
       p.auto.marks ∙ l.invariant.1,
       p.auto.queue ∙ l.invariant.2,
     )

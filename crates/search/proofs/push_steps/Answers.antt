@@ -7,26 +7,26 @@ pub push_on-a-requires : goal.push_on-a-requires
 push_on-a-requires c =
     let s = c in
     let a = s.args in
-    (s.requires.0, on_below (pool_searched a.slots.now a.payload.now a.e.ts a.e.pool) a.heads.now a.words.now a.catches.now a.o _ c.head_at-h.ensures s.requires.2 _ s.requires.1)
+    (s.requires.0, on_below (pool_searched a.slots.now a.payload.now a.e.ts a.e.pool) a.heads.now a.words.now a.catches.now a.o _ c.number_at-h.ensures s.requires.2 _ s.requires.1)
 
 pub push_target-t-requires : goal.push_target-t-requires
 push_target-t-requires c =
     let s = c in
     let a = s.args in
-    (c.push_on-a.ensures.held, target_below (pool_searched a.slots.now a.payload.now a.e.ts a.e.pool) a.heads.now a.words.now a.catches.now a.o _ c.head_at-h.ensures s.requires.2 _ (c.push_on-a.auto.marks ∙ s.requires.1))
+    (c.push_on-a.ensures.held, target_below (pool_searched a.slots.now a.payload.now a.e.ts a.e.pool) a.heads.now a.words.now a.catches.now a.o _ c.number_at-h.ensures s.requires.2 _ (c.push_on-a.auto.marks ∙ s.requires.1))
 
 pub push_catch-b-requires : goal.push_catch-b-requires
 push_catch-b-requires c =
     let s = c in
     let a = s.args in
-    (c.push_target-t.ensures.held, catch_below (pool_searched a.slots.now a.payload.now a.e.ts a.e.pool) a.heads.now a.words.now a.catches.now a.o _ c.head_at-h.ensures s.requires.2 _ (c.push_target-t.auto.marks ∙ c.push_on-a.auto.marks ∙ s.requires.1))
+    (c.push_target-t.ensures.held, catch_below (pool_searched a.slots.now a.payload.now a.e.ts a.e.pool) a.heads.now a.words.now a.catches.now a.o _ c.number_at-h.ensures s.requires.2 _ (c.push_target-t.auto.marks ∙ c.push_on-a.auto.marks ∙ s.requires.1))
 
 pub push_table-requires : goal.push_table-requires
 push_table-requires c =
     let s = c in
     let a = s.args in
     let el = (pool_searched a.slots.now a.payload.now a.e.ts a.e.pool) in
-    (c.push_catch-b.ensures.held, below_read (table_yes a.o _ a.words.now el c.if-h-eq1.true) refl (table_below el a.heads.now a.words.now a.catches.now a.o _ c.head_at-h.ensures s.requires.2 _ (c.push_catch-b.auto.marks ∙ c.push_target-t.auto.marks ∙ c.push_on-a.auto.marks ∙ s.requires.1)), s.requires.3)
+    (c.push_catch-b.ensures.held, below_read (table_yes a.o _ a.words.now el c.if-h-eq1.true) refl (table_below el a.heads.now a.words.now a.catches.now a.o _ c.number_at-h.ensures s.requires.2 _ (c.push_catch-b.auto.marks ∙ c.push_target-t.auto.marks ∙ c.push_on-a.auto.marks ∙ s.requires.1)), s.requires.3)
 
 pub shape_of-marks-then-h-eq1 : goal.shape_of-marks-then-h-eq1
 shape_of-marks-then-h-eq1 c = c.push_table.auto.marks ∙ c.push_catch-b.auto.marks ∙ c.push_target-t.auto.marks ∙ c.push_on-a.auto.marks
@@ -39,7 +39,7 @@ returns-then-h-eq1 c =
     let s = c in
     let a = s.args in
     let el = (pool_searched a.slots.now a.payload.now a.e.ts a.e.pool) in
-    grown_parts el a.heads.now a.words.now a.catches.now a.o _ c.head_at-h.ensures s.requires.2 c.push_on-a.ensures c.push_target-t.ensures c.push_catch-b.ensures
+    grown_parts el a.heads.now a.words.now a.catches.now a.o _ c.number_at-h.ensures s.requires.2 c.push_on-a.ensures c.push_target-t.ensures c.push_catch-b.ensures
     (grown_read (sym (table_yes a.o _ a.words.now el c.if-h-eq1.true)) c.push_table.ensures)
 
 pub shape_of-marks : goal.shape_of-marks
@@ -53,5 +53,5 @@ returns c =
     let s = c in
     let a = s.args in
     let el = (pool_searched a.slots.now a.payload.now a.e.ts a.e.pool) in
-    grown_parts el a.heads.now a.words.now a.catches.now a.o _ c.head_at-h.ensures s.requires.2 c.push_on-a.ensures c.push_target-t.ensures c.push_catch-b.ensures
+    grown_parts el a.heads.now a.words.now a.catches.now a.o _ c.number_at-h.ensures s.requires.2 c.push_on-a.ensures c.push_target-t.ensures c.push_catch-b.ensures
     (grown_nothing _ (table_no a.o _ a.words.now el c.if-h-eq1.false) c.push_catch-b.ensures.held)

@@ -1,5 +1,4 @@
 use mathlib.Core.Path.{◌≡◌}
-use Prim.Native.Nat.{◌-◌, ◌≤◌}
 use lib.ListN.{length}
 use Rattle.graph.specs.mirror.Queue.{Grown}
 use Rattle.targets.specs.mirror.Search.{pool_searched}
@@ -7,7 +6,4 @@ use Rattle.search.specs.mirror.Kept.{entries_from, Goes}
 use Rattle.search.proofs.push_table.Given as goal
 
 abbrev pub invariant-loop-k : goal.invariant-loop-k
-invariant-loop-k l = Grown l.initial.queue l.tail l.marks l.queue l.end (Goes (entries_from (pool_searched l.slots l.payload l.e.ts l.e.pool) l.at l.first l.k)) × (length l.marks ≡ length l.initial.marks) × (length l.queue ≡ length l.initial.queue) × (l.k ≤ l.count)
-
-abbrev pub decreases-loop-k : goal.decreases-loop-k
-decreases-loop-k l = l.count - l.k
+invariant-loop-k l = Grown l.initial.queue l.tail l.marks l.queue l.end (Goes (entries_from (pool_searched l.slots l.payload l.e.ts l.e.pool) l.at l.first l.k)) × (length l.marks ≡ length l.initial.marks) × (length l.queue ≡ length l.initial.queue)

@@ -1,13 +1,9 @@
 use mathlib.Core.Path.{◌≡◌}
 use mathlib.Core.Bool.{false}
-use Prim.Native.Nat.{◌-◌, ◌≤◌}
 use Rattle.graph.specs.Lists.{any}
 use Rattle.targets.specs.mirror.Search.{pool_searched}
 use Rattle.search.specs.mirror.Kept.{entries_from, off_heads}
 use Rattle.search.proofs.table_leaves.Given as goal
 
 abbrev pub invariant-loop-k : goal.invariant-loop-k
-invariant-loop-k l = (any (off_heads l.heads) (entries_from (pool_searched l.slots l.payload l.e.ts l.e.pool) l.at l.first l.k) ≡ false) × (l.k ≤ l.count)
-
-abbrev pub decreases-loop-k : goal.decreases-loop-k
-decreases-loop-k l = l.count - l.k
+invariant-loop-k l = any (off_heads l.heads) (entries_from (pool_searched l.slots l.payload l.e.ts l.e.pool) l.at l.first l.k) ≡ false

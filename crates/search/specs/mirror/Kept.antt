@@ -5,7 +5,8 @@
 -- the table's first element. "No target" is a place where nothing starts. A third table has one more than the offset of the handler that an instruction
 -- may go to, 0 where there is none; it may be empty.
 use Rattle.std.specs.Prelude.{ℕ, zero, suc, ◌+◌, ◌-◌, ◌/◌, ◌%◌, ◌≤◌, ◌<◌, min, ◌≡◌, Bool, true, cond, List, [], ◌∷◌, ◌++◌, eqb, get_or, length}
-use mathlib.Core.Option.{Option, none, some}
+use Rattle.std.specs.Prelude.{Option, None, Some}
+use Rattle.targets.specs.declared.PoolSlots.{PoolSlots}
 use Rattle.serializer.specs.declared.Elem.{Elem}
 use Rattle.graph.specs.Lists.{any}
 use Rattle.graph.specs.Graph.{Graph, Step, Finding, is_to, finding, mark_list}
@@ -13,13 +14,8 @@ use Rattle.graph.specs.Graph.Step.{to_offset, no_target}
 use Rattle.graph.specs.Graph.Finding.{closed, leaves}
 use Rattle.targets.specs.Targets.{smi_of, target_from}
 use Rattle.targets.specs.mirror.Search.{pool_searched}
-use Rattle.targets.specs.declared.Pool.{Pool}
-use Rattle.targets.specs.declared.Target.{Target}
-use Rattle.targets.specs.declared.Target.TheVariants as target
-use Rattle.search.specs.declared.Found.{Found}
-use Rattle.search.specs.declared.Found.TheVariants as found_case
-use Rattle.search.specs.declared.Searched.{Searched}
-use Rattle.search.specs.declared.Searched.TheVariants as searched
+use Rattle.search.specs.declared.Walked.{Walked}
+use Rattle.search.specs.declared.Walked.TheVariants as walked
 
 -- ---- a head
 abbrev pub size_of : ℕ → ℕ
@@ -44,12 +40,12 @@ here_of o h = o + h / 2048 % 2
 
 -- ---- the steps of an instruction: jumps, and then the step to its end
 -- a step for an entry shown
-abbrev pub shown : Target → List Step
-shown (target.At t) = to_offset t ∷ []
-shown target.Nothing = []
+abbrev pub shown : Option ℕ → List Step
+shown (Some t) = to_offset t ∷ []
+shown None = []
 
 -- the entries whose elements are the k from number n on
-unfoldable pub entries_from : (ℕ → Elem) → ℕ → ℕ → ℕ → List Step
+unfoldable pub entries_from : (ℕ → Option Elem) → ℕ → ℕ → ℕ → List Step
 entries_from el at n zero = []
 entries_from el at n (suc k) = shown (target_from at (smi_of (el n))) ++ entries_from el at (suc n) k
 
@@ -57,17 +53,17 @@ entries_from el at n (suc k) = shown (target_from at (smi_of (el n))) ++ entries
 unfoldable pub target_steps : List ℕ → ℕ → ℕ → List Step
 target_steps words o h = cond (goes_to h) (to_offset (get_or words o 0) ∷ []) []
 
-unfoldable pub table_steps : (ℕ → Elem) → List ℕ → ℕ → ℕ → List Step
+unfoldable pub table_steps : (ℕ → Option Elem) → List ℕ → ℕ → ℕ → List Step
 table_steps el words o h = cond (goes_by_table h) (entries_from el (here_of o h) (get_or words o 0) (count_of h)) []
 
-abbrev pub jumps : (ℕ → Elem) → List ℕ → ℕ → ℕ → List Step
+abbrev pub jumps : (ℕ → Option Elem) → List ℕ → ℕ → ℕ → List Step
 jumps el words o h = target_steps words o h ++ table_steps el words o h
 
 unfoldable pub on_steps : ℕ → ℕ → List Step
 on_steps o h = cond (continues h) (to_offset (o + size_of h) ∷ []) []
 
 -- the steps of an instruction at o with head h
-abbrev pub kept_steps : (ℕ → Elem) → List ℕ → ℕ → ℕ → List Step
+abbrev pub kept_steps : (ℕ → Option Elem) → List ℕ → ℕ → ℕ → List Step
 kept_steps el words o h = jumps el words o h ++ on_steps o h
 
 -- to its handler
@@ -85,11 +81,11 @@ unfoldable pub places : ℕ → List ℕ → List ℕ
 places i [] = []
 places i (h ∷ hs) = cond (eqb h 0) (places (suc i) hs) (i ∷ places (suc i) hs)
 
-unfoldable pub kept_graph : (ℕ → Elem) → List ℕ → List ℕ → List ℕ → Graph
+unfoldable pub kept_graph : (ℕ → Option Elem) → List ℕ → List ℕ → List ℕ → Graph
 kept_graph el heads words catches = record { starts = places 0 heads; steps = λ o. catch_steps catches o ++ kept_steps el words o (get_or heads o 0) }
 
 -- with the pool's elements as the code searches them
-abbrev pub graph_by : List ℕ → List ℕ → ℕ → Pool → List ℕ → List ℕ → List ℕ → Graph
+abbrev pub graph_by : List ℕ → List ℕ → ℕ → Option PoolSlots → List ℕ → List ℕ → List ℕ → Graph
 graph_by slots payload ts pool heads words catches = kept_graph (pool_searched slots payload ts pool) heads words catches
 
 -- ---- what the functions promise one another
@@ -106,13 +102,9 @@ Goes l t = any (is_to t) l ≡ true
 abbrev pub Below : List Step → ℕ → Type 0
 Below l n = (t : ℕ) → Goes l t → t < n
 
-abbrev pub found_as : Found → Option ℕ
-found_as (found_case.At o) = some o
-found_as found_case.Nothing = none
-
-abbrev pub finding_as : Searched → Finding
-finding_as searched.Closed = closed
-finding_as (searched.Leaves n o) = leaves n o
+abbrev pub finding_as : Walked → Finding
+finding_as walked.Closed = closed
+finding_as (walked.Leaves n o) = leaves n o
 
 -- ---- the search
 -- room that fits a code of at most 65,536 bytes
@@ -122,5 +114,5 @@ pub record Fits (heads marks queue : List ℕ) : Type 0 where
   pub room : length heads ≤ length queue
 
 -- the answer r and the marks M of n bytes are those computed
-abbrev pub IsFound : Graph → ℕ → Searched → List ℕ → Type 0
+abbrev pub IsFound : Graph → ℕ → Walked → List ℕ → Type 0
 IsFound g n r M = (finding_as r ≡ finding g) × (M ≡ mark_list g (finding g) n)

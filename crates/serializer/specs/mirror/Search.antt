@@ -6,9 +6,8 @@ use Rattle.store.specs.declared.Object.{Object}
 use Rattle.serializer.specs.Field.{raw_from}
 use Rattle.serializer.specs.Element.{elem_from}
 use Rattle.serializer.specs.Length.{length_by}
-use Rattle.serializer.specs.declared.SlotAt.{SlotAt}
-use Rattle.serializer.specs.declared.SlotAt.TheVariants as slot_case
-use Rattle.serializer.specs.declared.RawAt.{RawAt}
+use Rattle.std.specs.Prelude.{Option, Some, None}
+use Rattle.store.specs.declared.SlotValue.{SlotValue}
 use Rattle.serializer.specs.declared.Elem.{Elem}
 
 -- halving from lo to hi, at most fuel times
@@ -29,17 +28,17 @@ unfoldable pub point_at : List ℕ → ℕ → ℕ → ℕ → ℕ
 point_at s first count below = cut (low_slot s first below) count 0 count
 
 -- the slot at the point, where it has the index
-abbrev pub slot_here : List ℕ → ℕ → ℕ → ℕ → ℕ → SlotAt
-slot_here s first count index i = cond (ltb i count) (cond (eqb (slot_of s (first + i)).index index) (slot_case.At (slot_of s (first + i)).value) slot_case.Nothing) slot_case.Nothing
+abbrev pub slot_here : List ℕ → ℕ → ℕ → ℕ → ℕ → Option SlotValue
+slot_here s first count index i = cond (ltb i count) (cond (eqb (slot_of s (first + i)).index index) (Some (slot_of s (first + i)).value) None) None
 
-unfoldable pub slot_searched : List ℕ → ℕ → ℕ → ℕ → SlotAt
+unfoldable pub slot_searched : List ℕ → ℕ → ℕ → ℕ → Option SlotValue
 slot_searched s first count index = slot_here s first count index (point_at s first count index)
 
 -- the walk from the point
-unfoldable pub raw_searched : List ℕ → ℕ → ℕ → ℕ → ℕ → ℕ → RawAt
+unfoldable pub raw_searched : List ℕ → ℕ → ℕ → ℕ → ℕ → ℕ → Option ℕ
 raw_searched s first count ts off len = raw_from s first ts off len (point_at s first count (off / ts + 1))
 
-unfoldable pub elem_searched : List ℕ → List ℕ → ℕ → ℕ → ℕ → ℕ → Elem
+unfoldable pub elem_searched : List ℕ → List ℕ → ℕ → ℕ → ℕ → ℕ → Option Elem
 elem_searched s payload first count ts n = elem_from s payload first ts n (point_at s first count (n + 2 + 1))
 
 unfoldable pub len_searched : List ℕ → List ℕ → Object → ℕ → ℕ

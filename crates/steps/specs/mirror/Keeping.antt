@@ -10,16 +10,16 @@ use Rattle.decoder.specs.Listed.{decodes}
 use Rattle.flow.specs.declared.Flow.{Flow}
 use Rattle.flow.specs.declared.Kind.{Kind}
 use Rattle.flow.specs.declared.Kind.TheVariants.{On, Ends, Jumps, Branches, JumpsBack, Switch}
+use Rattle.std.specs.Prelude.{Option, Some, None, Result, Ok, Err}
+use Rattle.targets.specs.declared.Entries.{Entries}
 use Rattle.serializer.specs.declared.Elem.{Elem}
 use Rattle.targets.specs.Targets.{jump_target, jump_table}
-use Rattle.targets.specs.declared.Target.{Target}
-use Rattle.targets.specs.declared.Table.{Table}
-use Rattle.targets.specs.declared.Table.TheVariants as table
 use Rattle.graph.specs.Graph.{is_start}
 use Rattle.handlers.specs.mirror.Catches.{catch_word}
 use Rattle.search.specs.mirror.Kept.{word_of}
 use Rattle.steps.specs.declared.Kept.{Kept}
 use Rattle.steps.specs.Steps.{Source, to_target, walk_graph}
+use Rattle.targets.specs.declared.BadSwitch.{BadSwitch}
 
 -- how many bytes of prefix an instruction of this scale has
 abbrev pub prefix_of : ℕ → ℕ
@@ -31,16 +31,16 @@ kept_end size = record { head = size; word = 0; refused = false }
 abbrev pub kept_on : ℕ → Kept
 kept_on size = record { head = size + 256; word = 0; refused = false }
 
-abbrev pub kept_to : ℕ → Target → Kept
+abbrev pub kept_to : ℕ → Option ℕ → Kept
 kept_to head t = record { head = head; word = word_of (to_target t); refused = false }
 
 -- without a table a switch goes on
-abbrev pub kept_table : Table → ℕ → ℕ → Kept
-kept_table table.Nothing prefix size = kept_on size
-kept_table (table.At e) prefix size = record { head = size + 1280 + 2048 * prefix + 4096 * e.count; word = e.start; refused = false }
-kept_table table.Refused prefix size = record { head = size + 256; word = 0; refused = true }
+abbrev pub kept_table : Result (Option Entries) BadSwitch → ℕ → ℕ → Kept
+kept_table (Ok None) prefix size = kept_on size
+kept_table (Ok (Some e)) prefix size = record { head = size + 1280 + 2048 * prefix + 4096 * e.count; word = e.start; refused = false }
+kept_table (Err e) prefix size = record { head = size + 256; word = 0; refused = true }
 
-abbrev pub kept_by : Kind → Target → Table → ℕ → ℕ → Kept
+abbrev pub kept_by : Kind → Option ℕ → Result (Option Entries) BadSwitch → ℕ → ℕ → Kept
 kept_by On t entries prefix size = kept_on size
 kept_by Ends t entries prefix size = kept_end size
 kept_by Jumps t entries prefix size = kept_to (size + 512) t
@@ -48,7 +48,7 @@ kept_by Branches t entries prefix size = kept_to (size + 768) t
 kept_by JumpsBack t entries prefix size = kept_to (size + 512) t
 kept_by Switch t entries prefix size = kept_table entries prefix size
 
-unfoldable pub kept_of : (ℕ → Elem) → Bool → Flow → Instr → ℕ → Kept
+unfoldable pub kept_of : (ℕ → Option Elem) → Bool → Flow → Instr → ℕ → Kept
 kept_of el pooled flow i size = kept_by flow.kind (jump_target el flow i) (jump_table pooled flow i) (prefix_of i.scale) size
 
 -- ---- a code

@@ -17,19 +17,16 @@ returns-then-out-at c = let a = c.args in
     beyond a.out.now (hex_bytes a.s.now) (omega arith) (omega (arith, e, c.saturating_add-then-out-at-3.ensures, c.saturating_add-then-out-at-2.ensures, c.saturating_add-then-out-at.ensures))
 
 pub loop-i-init : goal.loop-i-init
-loop-i-init c = (omega arith, omega arith, λ o l a. a)
+loop-i-init c = λ o l a. a
 
 pub loop-i-preserved : goal.loop-i-preserved
 loop-i-preserved c =
     let b = c in
     let l = b in
-    let s = l.args.s.now in (
-      omega arith,
-      omega arith,
-      λ o h a.
-          rw (hex_bytes_more s l.loop-i.i (omega arith) (omega arith))
-          (rw append_assoc at (then h (then h (l.loop-i.invariant.2 o h a) b.put_byte-p.ensures) c.put_hex_byte-p-in-loop-i.ensures)),
-    )
+    let s = l.args.s.now in
+    λ o h a.
+    rw (hex_bytes_more s l.loop-i.i (omega arith) (omega arith))
+    (rw append_assoc at (then h (then h (l.loop-i.invariant o h a) b.put_byte-p.ensures) c.put_hex_byte-p-in-loop-i.ensures))
 
 written : (c : goal.After-loop-i) → let a = c.args in
     Put a.out.now a.at (hex_bytes a.s.now) c.loop-i.out c.loop-i.p
@@ -38,7 +35,7 @@ written c =
     let f = l in
     let a = f.args in
     rw (sym (take_all l.loop-i.i a.s.now (omega arith)))
-    (l.loop-i.invariant.2 a.out.now (omega arith) (rw (hex_bytes_one a.s.now (omega arith)) f.put_hex_byte-p.ensures))
+    (l.loop-i.invariant a.out.now (omega arith) (rw (hex_bytes_one a.s.now (omega arith)) f.put_hex_byte-p.ensures))
 
 pub shape_of-out : goal.shape_of-out
 shape_of-out c = kept (written c)

@@ -1,11 +1,7 @@
-use Prim.Native.Nat.{◌≤◌, ◌-◌}
 use mathlib.Core.Path.{◌≡◌}
 use lib.ListN.{take, replicate}
 use lib.Seq.{sets}
 use Rattle.text.proofs.put_spaces.Given as goal
 
 abbrev pub invariant-loop-i : goal.invariant-loop-i
-invariant-loop-i l = (l.i ≤ l.m) × (l.out ≡ sets l.initial.out l.at (take l.i (replicate l.n 32)))
-
-abbrev pub decreases-loop-i : goal.decreases-loop-i
-decreases-loop-i l = l.m - l.i
+invariant-loop-i l = l.out ≡ sets l.initial.out l.at (take l.i (replicate l.n 32))

@@ -9,16 +9,7 @@ use Rattle.text.proofs.put_triples.Goals as goal
 
 pub loop-i-init : goal.loop-i-init
 unfolding flat_map
-loop-i-init c = (omega arith, refl, refl)
-
-pub bounds-s-i : goal.bounds-s-i
-bounds-s-i c = omega arith
-
-pub overflow_mul-p : goal.overflow_mul-p
-overflow_mul-p c = omega arith
-
-pub overflow_add-p : goal.overflow_add-p
-overflow_add-p c = omega arith
+loop-i-init c = (refl, refl)
 
 pub hex_digit-first-requires : goal.hex_digit-first-requires
 hex_digit-first-requires c = omega (arith, c.type_inv.s c.loop-i.i)
@@ -26,42 +17,26 @@ hex_digit-first-requires c = omega (arith, c.type_inv.s c.loop-i.i)
 pub hex_digit-second-requires : goal.hex_digit-second-requires
 hex_digit-second-requires c = omega (arith, c.type_inv.s c.loop-i.i)
 
-pub bounds-out-p : goal.bounds-out-p
-bounds-out-p c = omega arith
-
-pub overflow_add-out : goal.overflow_add-out
-overflow_add-out c = omega arith
-
 pub bounds-out-p-in-loop-i : goal.bounds-out-p-in-loop-i
 bounds-out-p-in-loop-i c = simp length-set (omega arith)
 
-pub overflow_add-out-in-loop-i : goal.overflow_add-out-in-loop-i
-overflow_add-out-in-loop-i c = omega arith
-
 pub bounds-out-p-in-loop-i-2 : goal.bounds-out-p-in-loop-i-2
 bounds-out-p-in-loop-i-2 c = simp length-set (omega arith)
-
-pub overflow_add-i : goal.overflow_add-i
-overflow_add-i c = omega arith
-
-pub loop-i-smaller : goal.loop-i-smaller
-loop-i-smaller c = omega arith
 
 pub loop-i-preserved : goal.loop-i-preserved
 loop-i-preserved c =
     let l = c in
     let a = l.args in
     let p = a.at + 3 * l.loop-i.i in (
-      omega arith,
-      simp length-set l.loop-i.invariant.1,
-      ap (λ o. set (set (set o p c.hex_digit-first.result) (p + 1) c.hex_digit-second.result) (p + 2) 32) l.loop-i.invariant.2
+      simp length-set l.loop-i.invariant.0,
+      ap (λ o. set (set (set o p c.hex_digit-first.result) (p + 1) c.hex_digit-second.result) (p + 2) 32) l.loop-i.invariant.1
           ∙ triple_stored a.out.now a.at a.s.now l.loop-i.i (omega arith) c.hex_digit-first.ensures c.hex_digit-second.ensures,
     )
 
 pub shape_of-out : goal.shape_of-out
-shape_of-out c = c.loop-i.invariant.1
+shape_of-out c = c.loop-i.invariant.0
 
 pub returns : goal.returns
 returns c =
     let l = c in
-    l.loop-i.invariant.2 ∙ rw (take_all l.loop-i.i l.args.s.now (omega arith))
+    l.loop-i.invariant.1 ∙ rw (take_all l.loop-i.i l.args.s.now (omega arith))

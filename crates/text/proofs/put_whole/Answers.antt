@@ -7,19 +7,19 @@ use Rattle.text.proofs.Put.{stored, inside}
 use Rattle.text.proofs.put_whole.Goals as goal
 
 pub loop-i-init : goal.loop-i-init
-loop-i-init c = (omega arith, refl)
+loop-i-init c = refl
 
 pub bounds-out-at : goal.bounds-out-at
-bounds-out-at c = let l = c in rw (l.loop-i.invariant.1, length-sets) (omega arith)
+bounds-out-at c = let l = c in rw (l.loop-i.invariant, length-sets) (omega arith)
 
 pub loop-i-preserved : goal.loop-i-preserved
 loop-i-preserved c =
     let l = c in
     let a = l.args in
-    (omega arith, ap (λ o. set o (a.at + l.loop-i.i) (get_or a.s.now l.loop-i.i 0)) l.loop-i.invariant.1 ∙ stored a.out.now a.at l.loop-i.i a.s.now (omega arith))
+    ap (λ o. set o (a.at + l.loop-i.i) (get_or a.s.now l.loop-i.i 0)) l.loop-i.invariant ∙ stored a.out.now a.at l.loop-i.i a.s.now (omega arith)
 
 written : (c : goal.After-loop-i) → c.loop-i.out ≡ sets c.args.out.now c.args.at c.args.s.now
-written c = let l = c in l.loop-i.invariant.1 ∙ rw (take_all l.loop-i.i l.args.s.now (omega arith))
+written c = let l = c in l.loop-i.invariant ∙ rw (take_all l.loop-i.i l.args.s.now (omega arith))
 
 pub shape_of-out : goal.shape_of-out
 shape_of-out c = ap length (written c) ∙ simp length-sets

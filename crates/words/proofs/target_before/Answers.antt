@@ -1,9 +1,6 @@
-use Rattle.std.proofs.Common.{◌^◌, ap, ◌∙◌, arith, to_z-of_z}
-use Rattle.words.specs.Signed.{modulo}
+use Rattle.std.proofs.Common.{◌∙◌, to_z-of_z}
 use Rattle.words.proofs.Signs.{target_sub}
 use Rattle.words.proofs.target_before.Goals as goal
 
 pub returns : goal.returns
-returns c =
-    let s = c in
-    target_sub s.args.here s.args.distance _ _ (c.bits64.ensures ∙ ap (modulo (2 ^ 64)) (to_z-of_z s.ranges.distance)) (omega arith) (omega arith) c.wrapping_sub_u64.ensures.value
+returns c = simp (to_z-of_z c.ranges.distance) at c.wrapping_sub_signed.ensures ∙ target_sub c.args.here c.args.distance c.ranges.distance

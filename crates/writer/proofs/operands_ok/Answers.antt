@@ -13,7 +13,7 @@ use Rattle.writer.specs.Write.{given}
 use Rattle.writer.proofs.Loops.{given_next, given_end, ok_passes, ok_fails, ok_goes, ok_lacks, ok_end, ok_told}
 use borrow.Author.Rules.{rules}
 use Rattle.writer.proofs.operands_ok.Goals as goal
-use Rattle.writer.proofs.operands_ok.Goals.{else-all-lt8, then-all-lt8, else-not-counted, then-not-counted+else-j-instr+else-not-reads_back}
+use Rattle.writer.proofs.operands_ok.Goals.{else-not-counted, then-not-counted+else-j-instr+else-not-reads_back}
 
 pub returns-then-instr-gt8 : goal.returns-then-instr-gt8
 returns-then-instr-gt8 c =
@@ -22,8 +22,8 @@ returns-then-instr-gt8 c =
 pub loop-k-init : goal.loop-k-init
 loop-k-init c =
     let a = c.args in
-    let is : c.if-all-lt8.n ≡ min (operand_count a.opcodes.now a.instr.opcode) 8 = elim c.if-all-lt8.branch [ then-all-lt8 w ↦ omega arith | else-all-lt8 w ↦ omega arith ] in
-    let whole : c.if-all-lt8.n - 0 ≡ c.if-all-lt8.n = omega arith in
+    let is : c.min-n.result ≡ min (operand_count a.opcodes.now a.instr.opcode) 8 = omega arith in
+    let whole : c.min-n.result - 0 ≡ c.min-n.result = omega arith in
     (is, omega arith, omega arith, omega (arith, c.if-instr-gt8.false), search rules, rw whole)
 
 pub returns-then-j-instr : goal.returns-then-j-instr
@@ -31,7 +31,7 @@ returns-then-j-instr c =
     let a = c.args in
     let l = c.loop-k in
     let z = to_z w32 (of_z w32 a.start) in
-    let n = c.if-all-lt8.n in
+    let n = c.min-n.result in
     sym (simp (to_z-of_z c.ranges.start) at (ok_told a.types.now z (opcodes_of a.opcodes.now) a.instr l.invariant.0 l.invariant.3 (l.invariant.5 ∙ ok_lacks a.types.now a.instr.scale z (opcodes_of a.opcodes.now) a.instr.opcode n l.k c.type_code-t.result l.before c.loop-k-test.true c.type_code-t.ensures (drop l.j (given a.instr)) (sym c.counted.ensures ∙ c.if-not-counted.true) (given_end a.instr l.invariant.3 l.invariant.4 l.j c.if-j-instr.true))))
 
 pub returns-then-not-reads_back : goal.returns-then-not-reads_back
@@ -39,7 +39,7 @@ returns-then-not-reads_back c =
     let a = c.args in
     let l = c.loop-k in
     let z = to_z w32 (of_z w32 a.start) in
-    let n = c.if-all-lt8.n in
+    let n = c.min-n.result in
     sym (simp (to_z-of_z c.ranges.start) at (ok_told a.types.now z (opcodes_of a.opcodes.now) a.instr l.invariant.0 l.invariant.3 (l.invariant.5 ∙ ok_fails a.types.now a.instr.scale z (opcodes_of a.opcodes.now) a.instr.opcode n l.k c.type_code-t.result l.before c.loop-k-test.true c.type_code-t.ensures (drop l.j (given a.instr)) (get_or a.instr.operands l.j (record { operand = Nothing })).operand (drop (l.j + 1) (given a.instr)) (sym c.counted.ensures ∙ c.if-not-counted.true) (given_next a.instr l.invariant.3 l.invariant.4 l.j c.if-j-instr.false) (sym c.reads_back.ensures ∙ c.if-not-reads_back.true))))
 
 pub loop-k-preserved : goal.loop-k-preserved
@@ -47,7 +47,7 @@ loop-k-preserved c =
     let a = c.args in
     let l = c.loop-k in
     let z = to_z w32 (of_z w32 a.start) in
-    let n = c.if-all-lt8.n in
+    let n = c.min-n.result in
     let t = c.loop-k-test.true in
     elim c.if-not-counted.branch [
       | then-not-counted+else-j-instr+else-not-reads_back w ↦
@@ -61,5 +61,5 @@ returns c =
     let a = c.args in
     let l = c.loop-k in
     let z = to_z w32 (of_z w32 a.start) in
-    let n = c.if-all-lt8.n in
+    let n = c.min-n.result in
     sym (simp (to_z-of_z c.ranges.start) at (ok_told a.types.now z (opcodes_of a.opcodes.now) a.instr l.invariant.0 l.invariant.3 (l.invariant.5 ∙ ok_end a.types.now a.instr.scale z (opcodes_of a.opcodes.now) a.instr.opcode n l.k l.before a.instr l.j l.invariant.3 l.invariant.4 l.invariant.2 c.loop-k-test.false)))

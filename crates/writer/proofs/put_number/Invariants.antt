@@ -6,6 +6,3 @@ use Rattle.writer.proofs.put_number.Given as goal
 
 abbrev pub invariant-loop-k : goal.invariant-loop-k
 invariant-loop-k l = (l.k ≤ l.m) × PutUpTo l.initial.out l.at (le_bytes l.m l.n) (le_bytes (l.m - l.k) l.v) l.out l.p
-
-abbrev pub decreases-loop-k : goal.decreases-loop-k
-decreases-loop-k l = l.m - l.k

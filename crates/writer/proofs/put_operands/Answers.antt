@@ -16,12 +16,12 @@ use Rattle.writer.specs.Write.{given}
 use Rattle.writer.proofs.Loops.{bytes_from, given_next, given_end, bytes_passes, bytes_takes, bytes_lack, bytes_end, bytes_told, text_is}
 use borrow.Author.Rules.{rules}
 use Rattle.writer.proofs.put_operands.Goals as goal
-use Rattle.writer.proofs.put_operands.Goals.{else-all-lt8, then-all-lt8, else-not-counted, then-not-counted+else-j-instr}
+use Rattle.writer.proofs.put_operands.Goals.{else-not-counted, then-not-counted+else-j-instr}
 
 pub loop-k-init : goal.loop-k-init
 loop-k-init c =
     let a = c.args in
-    let is : c.if-all-lt8.n ≡ min (operand_count a.opcodes.now a.instr.opcode) 8 = elim c.if-all-lt8.branch [ then-all-lt8 w ↦ omega arith | else-all-lt8 w ↦ omega arith ] in
+    let is : c.min-n.result ≡ min (operand_count a.opcodes.now a.instr.opcode) 8 = omega arith in
     (is, omega arith, omega arith, c.requires, search rules, rw sub-zero (up_to_none a.out.now a.at _ c.saturating_add-p.ensures))
 
 pub shape_of-out-then-j-instr : goal.shape_of-out-then-j-instr
@@ -33,7 +33,7 @@ returns-then-j-instr c =
     let a = c.args in
     let l = c.loop-k in
     let z = to_z w32 (of_z w32 a.start) in
-    let n = c.if-all-lt8.n in
+    let n = c.min-n.result in
     simp (to_z-of_z c.ranges.start) at (text_is (bytes_told a.types.now z (opcodes_of a.opcodes.now) a.instr l.invariant.0) (up_to_all (bytes_lack a.types.now a.instr.scale z (opcodes_of a.opcodes.now) a.instr.opcode n l.k l.before (drop l.j (given a.instr)) (given_end a.instr l.invariant.3 l.invariant.4 l.j c.if-j-instr.true)) l.invariant.5))
 
 pub loop-k-preserved : goal.loop-k-preserved
@@ -41,7 +41,7 @@ loop-k-preserved c =
     let a = c.args in
     let l = c.loop-k in
     let z = to_z w32 (of_z w32 a.start) in
-    let n = c.if-all-lt8.n in
+    let n = c.min-n.result in
     let t = c.loop-k-test.true in
     elim c.if-not-counted.branch [
       | then-not-counted+else-j-instr w ↦
@@ -59,5 +59,5 @@ returns c =
     let a = c.args in
     let l = c.loop-k in
     let z = to_z w32 (of_z w32 a.start) in
-    let n = c.if-all-lt8.n in
+    let n = c.min-n.result in
     simp (to_z-of_z c.ranges.start) at (text_is (bytes_told a.types.now z (opcodes_of a.opcodes.now) a.instr l.invariant.0) (up_to_all (bytes_end a.types.now a.instr.scale z (opcodes_of a.opcodes.now) a.instr.opcode n l.k l.before (drop l.j (given a.instr)) c.loop-k-test.false) l.invariant.5))

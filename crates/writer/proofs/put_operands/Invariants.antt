@@ -13,6 +13,3 @@ abbrev pub invariant-loop-k : goal.invariant-loop-k
 invariant-loop-k l =
     (l.n ≡ min (operand_count l.opcodes l.instr.opcode) 8) × (l.k ≤ l.n) × (l.j ≤ l.instr.count) × (l.instr.count ≤ 8) × (length l.instr.operands ≡ 8)
     × PutUpTo l.initial.out l.at (bytes_from l.types l.instr.scale l.start 0 (codes_from (opcodes_of l.opcodes) l.instr.opcode 0 l.n) (given l.instr)) (bytes_from l.types l.instr.scale l.start l.before (codes_from (opcodes_of l.opcodes) l.instr.opcode l.k (l.n - l.k)) (drop l.j (given l.instr))) l.out l.p
-
-abbrev pub decreases-loop-k : goal.decreases-loop-k
-decreases-loop-k l = l.n - l.k

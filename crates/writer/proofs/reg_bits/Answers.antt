@@ -1,3 +1,4 @@
+use Rattle.std.specs.Prelude.{ℤ}
 use Prim.Native.Nat.{◌^◌}
 use mathlib.Core.Path.{ap, ◌∙◌}
 use mir.Syntax.{w32}

@@ -2,19 +2,19 @@ use mathlib.Core.Path.{◌≡◌}
 use native.Mathlib.Omega.{arith}
 use Rattle.serializer.specs.Element.{elem_look}
 use Rattle.serializer.proofs.Down.{walk_more}
-use Rattle.serializer.specs.declared.Elem.TheVariants as elem
+use Rattle.std.specs.Prelude.{None}
 use Rattle.serializer.proofs.elements.block_down.Goals as goal
 
-pub returns-in-Found : goal.returns-in-Found
-returns-in-Found c =
+pub returns-in-Some : goal.returns-in-Some
+returns-in-Some c =
     let a = c.args in
     let l = c.loop-k in
     rw (
       l.invariant.3,
-      walk_more (elem_look a.payload.now a.ts a.want) elem.Nothing a.slots.now a.first a.want l.k (omega arith),
+      walk_more (elem_look a.payload.now a.ts a.want) None a.slots.now a.first a.want l.k (omega arith),
       ← c.slot_of-slot.ensures,
       ← c.elem_in.ensures,
-      c.in-Found.is,
+      c.in-Some.is,
     )
 
 pub returns-then-stops : goal.returns-then-stops
@@ -23,10 +23,10 @@ returns-then-stops c =
     let l = c.loop-k in
     rw (
       l.invariant.3,
-      walk_more (elem_look a.payload.now a.ts a.want) elem.Nothing a.slots.now a.first a.want l.k (omega arith),
+      walk_more (elem_look a.payload.now a.ts a.want) None a.slots.now a.first a.want l.k (omega arith),
       ← c.slot_of-slot.ensures,
       ← c.elem_in.ensures,
-      c.in-Below.is,
+      c.in_default.is,
       ← c.stops.ensures,
       c.if-stops.true,
     )
@@ -40,10 +40,10 @@ loop-k-preserved c =
       omega arith,
       rw (
         l.invariant.3,
-        walk_more (elem_look a.payload.now a.ts a.want) elem.Nothing a.slots.now a.first a.want l.k (omega arith),
+        walk_more (elem_look a.payload.now a.ts a.want) None a.slots.now a.first a.want l.k (omega arith),
         ← c.slot_of-slot.ensures,
         ← c.elem_in.ensures,
-        c.in-Below.is,
+        c.in_default.is,
         ← c.stops.ensures,
         c.if-stops.false,
       ),

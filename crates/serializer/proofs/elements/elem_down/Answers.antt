@@ -7,15 +7,15 @@ use Rattle.serializer.proofs.elements.elem_down.Goals as goal
 pub loop-k-init : goal.loop-k-init
 loop-k-init c = (omega arith, c.requires.0, c.requires.1, λ count h blocked. refl)
 
-pub returns-in-Found : goal.returns-in-Found
-returns-in-Found c count h blocked =
+pub returns-in-Some : goal.returns-in-Some
+returns-in-Some c count h blocked =
     let l = c.loop-k in
-    sym (l.invariant.3 count h blocked ∙ c.block_down.ensures ∙ rw c.in-Found.is)
+    sym (l.invariant.3 count h blocked ∙ c.block_down.ensures ∙ rw c.in-Some.is)
 
-pub loop-k-preserved-in-Below : goal.loop-k-preserved-in-Below
-loop-k-preserved-in-Below c =
+pub loop-k-preserved-in_default : goal.loop-k-preserved-in_default
+loop-k-preserved-in_default c =
     let l = c.loop-k in
-    (omega arith, l.invariant.1, l.invariant.2, λ count h blocked. l.invariant.3 count h blocked ∙ c.block_down.ensures ∙ rw c.in-Below.is)
+    (omega arith, l.invariant.1, l.invariant.2, λ count h blocked. l.invariant.3 count h blocked ∙ c.block_down.ensures ∙ rw c.in_default.is)
 
 pub loop-k-preserved : goal.loop-k-preserved
 loop-k-preserved c =

@@ -2,19 +2,19 @@ use mathlib.Core.Path.{◌≡◌, sym, ◌∙◌}
 use native.Mathlib.Omega.{arith}
 use Rattle.serializer.specs.Field.{raw_look}
 use Rattle.serializer.proofs.Down.{walk_more, down_none}
-use Rattle.serializer.specs.declared.RawAt.TheVariants as raw_case
+use Rattle.std.specs.Prelude.{None}
 use Rattle.serializer.proofs.runs.raw_down.Goals as goal
 
-pub returns-in-At : goal.returns-in-At
-returns-in-At c =
+pub returns-in-Some : goal.returns-in-Some
+returns-in-Some c =
     let a = c.args in
     let l = c.loop-k in
     rw (
-      l.invariant.1,
-      walk_more (raw_look a.ts a.off a.len) raw_case.Nothing a.slots.now a.first a.want l.k (omega arith),
+      l.invariant,
+      walk_more (raw_look a.ts a.off a.len) None a.slots.now a.first a.want l.k (omega arith),
       ← c.slot_of-slot.ensures,
       ← c.raw_in.ensures,
-      c.in-At.is,
+      c.in-Some.is,
     )
 
 pub returns-then-stops : goal.returns-then-stops
@@ -22,11 +22,11 @@ returns-then-stops c =
     let a = c.args in
     let l = c.loop-k in
     rw (
-      l.invariant.1,
-      walk_more (raw_look a.ts a.off a.len) raw_case.Nothing a.slots.now a.first a.want l.k (omega arith),
+      l.invariant,
+      walk_more (raw_look a.ts a.off a.len) None a.slots.now a.first a.want l.k (omega arith),
       ← c.slot_of-slot.ensures,
       ← c.raw_in.ensures,
-      c.in-Nothing.is,
+      c.in_default.is,
       ← c.stops.ensures,
       c.if-stops.true,
     )
@@ -34,18 +34,16 @@ returns-then-stops c =
 pub loop-k-preserved : goal.loop-k-preserved
 loop-k-preserved c =
     let a = c.args in
-    let l = c.loop-k in (
-      omega arith,
-      rw (
-        l.invariant.1,
-        walk_more (raw_look a.ts a.off a.len) raw_case.Nothing a.slots.now a.first a.want l.k (omega arith),
-        ← c.slot_of-slot.ensures,
-        ← c.raw_in.ensures,
-        c.in-Nothing.is,
-        ← c.stops.ensures,
-        c.if-stops.false,
-      ),
+    let l = c.loop-k in
+    rw (
+      l.invariant,
+      walk_more (raw_look a.ts a.off a.len) None a.slots.now a.first a.want l.k (omega arith),
+      ← c.slot_of-slot.ensures,
+      ← c.raw_in.ensures,
+      c.in_default.is,
+      ← c.stops.ensures,
+      c.if-stops.false,
     )
 
 pub returns : goal.returns
-returns c = let e : c.loop-k.k ≡ 0 = omega arith in sym (c.loop-k.invariant.1 ∙ rw (e, down_none))
+returns c = let e : c.loop-k.k ≡ 0 = omega arith in sym (c.loop-k.invariant ∙ rw (e, down_none))

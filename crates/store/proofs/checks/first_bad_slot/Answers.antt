@@ -1,28 +1,22 @@
-use mathlib.Core.Path.{ap, ◌≡◌, sym, ◌∙◌}
+use mathlib.Core.Path.{sym, ap, ◌∙◌}
 use mathlib.Core.Bool.{not}
-use native.Mathlib.Omega.{arith}
-use native.Mathlib.Nat.{sub-zero}
-use Rattle.laws.proofs.Scan.{first-here, first_next, first_end}
+use Rattle.std.proofs.Common.{arith}
 use Rattle.store.specs.Check.{bad_alone}
+use Rattle.store.specs.Records.{slot_count}
+use Rattle.store.proofs.Search.{found_here, none_yet, none_left}
 use Rattle.store.proofs.checks.first_bad_slot.Goals as goal
-
-pub loop-k-init : goal.loop-k-init
-loop-k-init c = (omega arith, rw sub-zero)
 
 pub returns-then-not-slot_ok : goal.returns-then-not-slot_ok
 returns-then-not-slot_ok c =
-    let l = c.loop-k in
-    let a = c.args in
-    rw (← c.slot_count-n.ensures) (sym (l.invariant.1 ∙ first-here (bad_alone a.slots.now a.objects a.payload) l.k _ c.loop-k-test.true (ap not (sym c.slot_ok.ensures ∙ c.if-not-slot_ok.true))))
+    let s = c.args.slots.now in
+    found_here (bad_alone s c.args.objects c.args.payload) c.loop-k.k (slot_count s) c.loop-k.invariant (omega arith) (ap not (sym c.slot_ok.ensures ∙ c.if-not-slot_ok.true))
 
 pub loop-k-preserved : goal.loop-k-preserved
 loop-k-preserved c =
-    let l = c.loop-k in
-    let a = c.args in
-    (omega arith, l.invariant.1 ∙ first_next (bad_alone a.slots.now a.objects a.payload) l.k _ c.loop-k-test.true (ap not (sym c.slot_ok.ensures ∙ c.if-not-slot_ok.false)))
+    let s = c.args.slots.now in
+    none_yet (bad_alone s c.args.objects c.args.payload) c.loop-k.k (slot_count s) c.loop-k.invariant (omega arith) (ap not (sym c.slot_ok.ensures ∙ c.if-not-slot_ok.false))
 
 pub returns : goal.returns
 returns c =
-    let l = c.loop-k in
-    let e : l.k ≡ c.slot_count-n.result = omega arith in
-    rw (← c.slot_count-n.ensures) (sym (l.invariant.1 ∙ first_end _ _ _ c.loop-k-test.false ∙ e))
+    let s = c.args.slots.now in
+    none_left (bad_alone s c.args.objects c.args.payload) c.loop-k.k (slot_count s) c.loop-k.invariant (omega arith) (omega arith)

@@ -1,11 +1,9 @@
 use mathlib.Core.Path.{◌≡◌}
-use Prim.Native.Nat.{◌-◌, ◌≤◌}
+use Prim.Native.Nat.{◌-◌}
 use Rattle.laws.specs.Scan.{first_from}
+use Rattle.store.specs.Records.{slot_count}
 use Rattle.store.specs.Check.{bad_alone}
 use Rattle.store.proofs.checks.first_bad_slot.Given as goal
 
 abbrev pub invariant-loop-k : goal.invariant-loop-k
-invariant-loop-k l = (l.k ≤ l.n) × (first_from (bad_alone l.slots l.objects l.payload) 0 l.n ≡ first_from (bad_alone l.slots l.objects l.payload) l.k (l.n - l.k))
-
-abbrev pub decreases-loop-k : goal.decreases-loop-k
-decreases-loop-k l = l.n - l.k
+invariant-loop-k l = first_from (bad_alone l.slots l.objects l.payload) 0 (slot_count l.slots) ≡ first_from (bad_alone l.slots l.objects l.payload) l.k (slot_count l.slots - l.k)

@@ -1,5 +1,5 @@
 use Prim.Native.Nat.{ℕ, ◌+◌, ◌-◌, ◌*◌, ◌/◌, ◌<◌}
-use mathlib.Core.Path.{◌≡◌, ◌∙◌}
+use mathlib.Core.Path.{◌≡◌, refl, ◌∙◌}
 use mathlib.Core.List.{List}
 use native.Mathlib.Omega.{arith}
 use lib.ListN.{get_or}
@@ -26,11 +26,11 @@ found part f z e l h = rw e (h ∙ f.at part z (omega arith))
 pub returns-then-far-first : goal.returns-then-far-first
 returns-then-far-first c =
     let a = c.args in
-    fall_far a.slots.now a.first a.count a.end c.first_fall_in-near.ensures c.wide-far.result (omega arith) (omega arith)
-    (found (a.first / 256 + 1) c.requires.1 (omega arith) (omega arith) (omega arith) c.wide-far.ensures) (omega arith) (omega arith)
+    fall_far a.slots.now a.first a.count a.end c.first_fall_in-near.ensures _ (omega arith) (omega arith)
+    (found (a.first / 256 + 1) c.requires.1 (omega arith) (omega arith) (omega arith) refl) (omega arith) (omega arith)
 
 pub returns : goal.returns
 returns c =
     let a = c.args in
-    fall_behind a.slots.now a.first a.count a.end c.first_fall_in-near.ensures c.wide-far.result (omega arith) (omega arith)
-    (found (a.first / 256 + 1) c.requires.1 (omega arith) (omega arith) (omega arith) c.wide-far.ensures) (omega arith)
+    fall_behind a.slots.now a.first a.count a.end c.first_fall_in-near.ensures _ (omega arith) (omega arith)
+    (found (a.first / 256 + 1) c.requires.1 (omega arith) (omega arith) (omega arith) refl) (omega arith)

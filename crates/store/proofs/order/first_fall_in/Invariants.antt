@@ -1,11 +1,8 @@
-use Prim.Native.Nat.{◌-◌, ◌<◌}
+use Prim.Native.Nat.{◌-◌}
 use mathlib.Core.Path.{◌≡◌}
 use Rattle.store.specs.Records.{slot_of}
 use Rattle.store.proofs.Falls.{Clear}
 use Rattle.store.proofs.order.first_fall_in.Given as goal
 
 abbrev pub invariant-loop-k : goal.invariant-loop-k
-invariant-loop-k l = (l.first < l.k) × (l.before ≡ (slot_of l.slots (l.k - 1)).index) × Clear l.slots l.first l.count l.k
-
-abbrev pub decreases-loop-k : goal.decreases-loop-k
-decreases-loop-k l = l.stop - l.k
+invariant-loop-k l = (l.before ≡ (slot_of l.slots (l.k - 1)).index) × Clear l.slots l.first l.count l.k

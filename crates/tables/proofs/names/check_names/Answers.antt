@@ -1,13 +1,14 @@
-use Rattle.std.proofs.Common.{ℕ, ◌/◌, not, length, sym, ap, ◌∙◌, div-le_self, arith}
+use Rattle.std.proofs.Common.{ℕ, ◌/◌, not, length, sym, ap, ◌∙◌, arith, le-ltb}
 use native.Mathlib.Nat.{sub-zero}
 use Rattle.tables.proofs.Laws.{record_room}
 use Rattle.laws.proofs.Scan.{first-here, first_next, first_end}
 use Rattle.refusal.specs.Check.{at_record}
 use Rattle.tables.specs.Names.{bad_name}
 use Rattle.tables.proofs.names.check_names.Goals as goal
+use Rattle.refusal.specs.declared.Fault.TheVariants as fault
 
 pub loop-i-init : goal.loop-i-init
-loop-i-init c = (omega arith, rw sub-zero)
+loop-i-init c = rw sub-zero
 
 pub overflow_mul-i : goal.overflow_mul-i
 overflow_mul-i c = let h = record_room (length c.args.s.now) c.args.size c.loop-i.i c.loop-i-test.true in omega arith
@@ -21,21 +22,14 @@ returns-then-not-name_ok c =
     let l = c.loop-i in
     let n = length a.s.now / a.size in
     let h = first-here (bad_name a.s.now a.size a.w) l.i n c.loop-i-test.true (ap not (sym c.name_ok.ensures ∙ c.if-not-name_ok.true)) in
-    c.at_record.ensures ∙ ap (λ (k : ℕ). at_record 2 k n) (sym (l.invariant.1 ∙ h))
-
-pub overflow_add-i : goal.overflow_add-i
-overflow_add-i c = omega (arith, div-le_self (length c.args.s.now) c.args.size)
+    c.at_record.ensures ∙ ap (λ (k : ℕ). at_record fault.BadName k n) (sym (l.invariant ∙ h))
 
 pub loop-i-preserved : goal.loop-i-preserved
 loop-i-preserved c =
     let a = c.args in
     let l = c.loop-i in
     let n = length a.s.now / a.size in
-    (omega arith, l.invariant.1 ∙ first_next (bad_name a.s.now a.size a.w) l.i n c.loop-i-test.true (ap not (sym c.name_ok.ensures ∙ c.if-not-name_ok.false)))
+    l.invariant ∙ first_next (bad_name a.s.now a.size a.w) l.i n c.loop-i-test.true (ap not (sym c.name_ok.ensures ∙ c.if-not-name_ok.false))
 
 pub returns : goal.returns
-returns c =
-    let a = c.args in
-    let l = c.loop-i in
-    let n = length a.s.now / a.size in
-    c.at_record-2.ensures ∙ ap (λ (k : ℕ). at_record 2 k n) (sym (l.invariant.1 ∙ first_end _ _ _ c.loop-i-test.false))
+returns c = rw (c.loop-i.invariant ∙ first_end _ _ _ c.loop-i-test.false, le-ltb _ _ c.loop-i-test.false)

@@ -6,7 +6,7 @@ use Rattle.tables.specs.Names.{differs, is_named}
 use Rattle.tables.proofs.names.field_is.Goals as goal
 
 pub loop-i-init : goal.loop-i-init
-loop-i-init c = (omega arith, rw sub-zero)
+loop-i-init c = rw sub-zero
 
 pub returns-then-byte_at : goal.returns-then-byte_at
 unfolding is_named
@@ -14,7 +14,7 @@ returns-then-byte_at c =
     let l = c.loop-i in
     let a = c.args in
     let d = ap not (ne_eqb _ _ (λ e. c.if-byte_at.true (c.byte_at.ensures ∙ e ∙ sym c.byte_at-in-loop-i.ensures))) in
-    let f : first_from (differs a.s.now a.at a.name.now) 0 a.w ≡ l.i = l.invariant.1 ∙ first-here (differs a.s.now a.at a.name.now) l.i a.w c.loop-i-test.true d in
+    let f : first_from (differs a.s.now a.at a.name.now) 0 a.w ≡ l.i = l.invariant ∙ first-here (differs a.s.now a.at a.name.now) l.i a.w c.loop-i-test.true d in
     sym (ne_eqb _ _ (λ e. let z : l.i ≡ a.w = sym f ∙ e in omega arith))
 
 pub loop-i-preserved : goal.loop-i-preserved
@@ -22,11 +22,11 @@ loop-i-preserved c =
     let l = c.loop-i in
     let a = c.args in
     let d = ap not (eq-eqb _ _ (sym c.byte_at.ensures ∙ c.if-byte_at.false ∙ c.byte_at-in-loop-i.ensures)) in
-    (omega arith, l.invariant.1 ∙ first_next (differs a.s.now a.at a.name.now) l.i a.w c.loop-i-test.true d)
+    l.invariant ∙ first_next (differs a.s.now a.at a.name.now) l.i a.w c.loop-i-test.true d
 
 pub returns : goal.returns
 unfolding is_named
 returns c =
     let l = c.loop-i in
     let e : l.i ≡ c.args.w = omega arith in
-    sym (eq-eqb _ _ (l.invariant.1 ∙ first_end _ _ _ c.loop-i-test.false ∙ e))
+    sym (eq-eqb _ _ (l.invariant ∙ first_end _ _ _ c.loop-i-test.false ∙ e))

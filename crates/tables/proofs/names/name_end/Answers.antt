@@ -1,4 +1,4 @@
-use Rattle.std.proofs.Common.{◌≡◌, ℕ, true, false, not, sym, ap, ◌∙◌}
+use Rattle.std.proofs.Common.{◌≡◌, ℕ, true, false, not, sym, ap, ◌∙◌, arith}
 use Rattle.tables.specs.Names.{is_name, not_name}
 use Rattle.laws.proofs.Scan.{first-here, first_next, first_end}
 use Rattle.tables.proofs.names.name_end.Goals as goal
@@ -18,4 +18,7 @@ loop-i-preserved c =
     l.invariant ∙ first_next (not_name a.s.now) l.i a.to c.loop-i-test.true h
 
 pub returns : goal.returns
-returns c = sym (c.loop-i.invariant ∙ first_end _ _ _ c.loop-i-test.false)
+returns c =
+    let l = c.loop-i in
+    let e : l.i ≡ c.args.to = omega arith in
+    sym (l.invariant ∙ first_end _ _ _ c.loop-i-test.false ∙ e)

@@ -5,6 +5,3 @@ use Rattle.tables.proofs.names.name_end.Given as goal
 
 abbrev pub invariant-loop-i : goal.invariant-loop-i
 invariant-loop-i l = first_from (not_name l.s) l.from (l.to - l.from) ≡ first_from (not_name l.s) l.i (l.to - l.i)
-
-abbrev pub decreases-loop-i : goal.decreases-loop-i
-decreases-loop-i l = l.to - l.i

@@ -12,15 +12,15 @@ found s at w h = h ∙ ap (λ (k : ℕ). first_from (not_name s) at k) (omega ar
 within : (s : List ℕ) (at w : ℕ) {e : ℕ} → e ≡ first_from (not_name s) at (at + w - at) → e ≤ at + w
 within s at w h = rw (found s at w h) (first-within (not_name s) at w).1
 
-pub returns-then-e-at : goal.returns-then-e-at
+pub returns-else-at-e : goal.returns-else-at-e
 unfolding name_ok
-returns-then-e-at c = rw (← found c.args.s.now c.args.at c.args.w c.name_end-e.ensures, le-ltb _ _ c.if-e-at.true)
+returns-else-at-e c = rw (← found c.args.s.now c.args.at c.args.w c.name_end-e.ensures, le-ltb _ _ c.if-at-e.false)
 
-pub returns : goal.returns
+pub returns-then-at-e : goal.returns-then-at-e
 unfolding name_ok
-returns c =
+returns-then-at-e c =
     let a = c.args in
-    rw (← found c.args.s.now c.args.at c.args.w c.name_end-e.ensures, lt-ltb _ _ c.if-e-at.false) (c.all_zero.ensures ∙ zeros_part a.s.now c.name_end-e.result (a.at + a.w) c.requires (within c.args.s.now c.args.at c.args.w c.name_end-e.ensures))
+    rw (← found c.args.s.now c.args.at c.args.w c.name_end-e.ensures, lt-ltb _ _ c.if-at-e.true) (c.all_zero.ensures ∙ zeros_part a.s.now c.name_end-e.result (a.at + a.w) c.requires (within c.args.s.now c.args.at c.args.w c.name_end-e.ensures))
 
 pub slice_bounds-all_zero-count : goal.slice_bounds-all_zero-count
 slice_bounds-all_zero-count c = within c.args.s.now c.args.at c.args.w c.name_end-e.ensures

@@ -1,4 +1,0 @@
-use Rattle.header.proofs.u32_found.Goals as goal
-
-pub returns-in-At : goal.returns-in-At
-returns-in-At c = rw c.in-At.is c.u32_at.ensures

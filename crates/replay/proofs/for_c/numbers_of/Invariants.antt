@@ -1,6 +1,0 @@
--- `numbers_of` ends: the measure is how many numbers are left.
-use Rattle.std.proofs.Common.{◌-◌}
-use Rattle.replay.proofs.for_c.numbers_of.Given as goal
-
-abbrev pub decreases-loop-k : goal.decreases-loop-k
-decreases-loop-k l = 28 - l.k

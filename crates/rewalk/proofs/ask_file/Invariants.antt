@@ -1,6 +1,0 @@
--- `ask_file` ends: the measure is the number of bytes that are left, and an item ends behind its place.
-use Rattle.std.proofs.Common.{◌-◌, length}
-use Rattle.rewalk.proofs.ask_file.Given as goal
-
-abbrev pub decreases-loop-at : goal.decreases-loop-at
-decreases-loop-at g l = length l.bytes - l.at
