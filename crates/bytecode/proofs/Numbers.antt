@@ -1,4 +1,4 @@
--- What the numbers of a decoding say: its outcome, and where an instruction was decoded all of it but its start. Assumes nothing.
+-- What the numbers of a decoding say: whether it was refused, and where an instruction was decoded all of it but its start. Assumes nothing.
 use Prim.Native.Nat.{ℕ}
 use mathlib.Core.Path.{◌≡◌, refl, sym, ap, ◌∙◌}
 use mathlib.Core.List.{List, [], ◌∷◌}
@@ -8,27 +8,27 @@ use Rattle.refusal.specs.Numbers.{Numbers}
 use Rattle.refusal.specs.declared.Refusal.{Refusal}
 use Rattle.refusal.proofs.Numbers.{refusal_back, refused_or, end_or, count}
 use Rattle.operand.proofs.Numbers.{Leading, leading, operand_leads}
+use Rattle.std.specs.Prelude.{Some, None, Ok, Err}
 use Rattle.decoder.specs.declared.OperandRecord.{OperandRecord}
 use Rattle.decoder.specs.declared.Instr.{Instr}
-use Rattle.decoder.specs.declared.Outcome.{Outcome}
-use Rattle.decoder.specs.declared.Decoded.{Decoded}
-use Rattle.bytecode.specs.Numbers.{operands_numbers, instr_numbers, outcome_numbers, decoded_numbers}
+use Rattle.decoder.specs.Decode.{Decoded, instr_in}
+use Rattle.bytecode.specs.Numbers.{operands_numbers, instr_numbers, decoded_numbers}
 
--- ---- the outcome
+-- ---- the answer
 
-abbrev outcome_of : Numbers → Outcome
-outcome_of n = refused_or Outcome.Refused (λ vs. end_or Outcome.End Outcome.Done n) n
+-- an answer with this instruction, if it has one
+abbrev answer_of : Instr → Numbers → Decoded
+answer_of i n = refused_or Err (λ vs. end_or (Ok None) (Ok (Some i)) n) n
 
-outcome_back : (start : ℕ) (o : Outcome) (i : Instr) → outcome_of (outcome_numbers start o i) ≡ o
-outcome_back start Outcome.End i = refl
-outcome_back start (Outcome.Refused r) i = ap (λ (x : Refusal). Outcome.Refused x) (refusal_back r)
-outcome_back start Outcome.Done i = refl
+answer_back : (start : ℕ) (d : Decoded) → answer_of (instr_in d) (decoded_numbers start d) ≡ d
+answer_back start (Ok (Some i)) = refl
+answer_back start (Ok None) = refl
+answer_back start (Err r) = ap (λ (x : Refusal). Err x) (refusal_back r)
 
 -- with the instruction, which is blank unless one was decoded, the numbers say all
-pub decoded_numbers_one : (start : ℕ) (a b : Decoded) → decoded_numbers start a ≡ decoded_numbers start b → a.instr ≡ b.instr → a ≡ b
+pub decoded_numbers_one : (start : ℕ) (a b : Decoded) → decoded_numbers start a ≡ decoded_numbers start b → instr_in a ≡ instr_in b → a ≡ b
 decoded_numbers_one start a b e i =
-    let o : a.outcome ≡ b.outcome = sym (outcome_back start a.outcome a.instr) ∙ ap outcome_of e ∙ outcome_back start b.outcome b.instr in
-    λ k. record { outcome = o k; instr = i k }
+    sym (answer_back start a) ∙ ap (λ (x : Instr). answer_of x (decoded_numbers start a)) i ∙ ap (answer_of (instr_in b)) e ∙ answer_back start b
 
 -- ---- the instruction
 

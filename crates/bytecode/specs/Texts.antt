@@ -8,7 +8,7 @@ use Rattle.layout.specs.declared.Frame.{Frame}
 use Rattle.tables.specs.Texts.{type_name, runtime_name, intrinsic_name}
 use Rattle.flow.specs.Opcodes.{Opcodes}
 use Rattle.operand.specs.declared.Operand.{Operand}
-use Rattle.operand.specs.declared.Operand.TheVariants.{Nothing, Reg, RegList, Imm, Idx, Flag8, Flag16, RuntimeId, IntrinsicId, Raw}
+use Rattle.operand.specs.declared.Operand.TheVariants.{Reg, RegList, Imm, Idx, Flag8, Flag16, RuntimeId, IntrinsicId, Raw}
 
 -- the number of the parameter that a negative index means: from the base and the parameter count where there is a base
 abbrev pub parameter_index : Option ℤ → ℤ → ℤ → ℤ → ℤ
@@ -41,7 +41,6 @@ pub record NameFiles : Type 0 where
 
 -- The Rust's `render_operand`; V8: BytecodeDecoder::Decode's printing.
 unfoldable pub operand_text : NameFiles → Frame → ℤ → Operand → List ℕ
-operand_text files frame params Nothing = []
 operand_text files frame params (Reg i) = reg_name frame params i
 operand_text files frame params (RegList first count) = list_name frame params first count
 operand_text files frame params (Imm v) = ascii "[" ++ signed_decimal v ++ ascii "]"

@@ -15,45 +15,42 @@ ghost use Rattle.bytecode.specs.Texts.{parameter_index, param_name, reg_name, li
 ghost use Rattle.bytecode.specs.Decode.{check_code, decode_one};
 ghost use Rattle.bytecode.specs.Numbers.{decoded_numbers};
 
-use decoder::{Decoded, Outcome};
+use decoder::Instr;
 use operand::Operand;
 use refusal::{Fault, Refusal};
 use tables::Frame;
 
 // The instruction at place start of lent code: rows 1 to 5 and 10, then 20 and 11 to 15; "end" at the code's length.
 #[tactic(auto, unfolding(crate::specs::Decode::decode_one))]
-pub fn decode(opcodes: &[u8], types: &[u8], layout: &[u8], code: &[u8], start: usize) -> Decoded
+pub fn decode(
+    opcodes: &[u8],
+    types: &[u8],
+    layout: &[u8],
+    code: &[u8],
+    start: usize,
+) -> Result<Option<Instr>, Refusal>
     ensures { (decoded_numbers start result
         ≡ decoded_numbers start (decode_one opcodes.now types.now layout.now code.now start))
-        × (result.instr ≡ (decode_one opcodes.now types.now layout.now code.now start).instr) }
+        × (result ≡ decode_one opcodes.now types.now layout.now code.now start) }
 {
-    match check_lent(opcodes, types, layout, code) {
-        Err(refusal) => Decoded {
-            outcome: Outcome::Refused(refusal),
-            instr: decoder::blank_instr(),
-        },
-        Ok(()) => decode_unchecked(opcodes, types, layout, code, start),
-    }
+    check_lent(opcodes, types, layout, code)?;
+    decode_unchecked(opcodes, types, layout, code, start)
 }
 
 // A register's name.
-#[tactic(auto, unfolding(crate::specs::Texts::reg_name))]
+#[tactic(auto, using(words::proofs::Signs::same_bits), unfolding(crate::specs::Texts::reg_name))]
 pub fn reg_name(out: &mut [u8], at: usize, frame: Frame, params: i32, index: i32) -> usize
     ensures { Put out.old at (reg_name frame params index) out.new result }
 {
-    if words::eq_i32(index, frame.context) {
+    if index == frame.context {
         return text::put_bytes(out, at, b"<context>");
     }
-    if words::eq_i32(index, frame.closure) {
+    if index == frame.closure {
         return text::put_bytes(out, at, b"<closure>");
     }
-    if words::is_negative(words::wide(index)) {
-        let base = frame.param_base;
-        return param_name(
-            out,
-            at,
-            parameter_index(base, frame.first_param, params, index),
-        );
+    if index < 0 {
+        let p = parameter_index(frame.param_base, frame.first_param, params, index);
+        return param_name(out, at, p);
     }
     let p = text::put_byte(out, at, b'r');
     text::put_signed32(out, p, index)
@@ -75,8 +72,6 @@ pub fn render_operand(
         (record { types = types.now; runtime = runtime.now; intrinsic = intrinsic.now }) frame params op) out.new result }
 {
     match op {
-        // Not at itself: a place behind 2 ^ 63 is told as 2 ^ 63.
-        Operand::Nothing => text::saturating_add(at, 0),
         Operand::Reg(i) => reg_name(out, at, frame, params, i),
         Operand::RegList { first, count } => list_name(out, at, frame, params, first, count),
         Operand::Imm(v) => put_imm(out, at, v),
@@ -126,23 +121,24 @@ pub fn check_code(code: &[u8]) -> Result<(), Refusal>
     refusal::refuse_unless(code.len() <= 65536, Fault::LongCode)
 }
 
+#[tactic(auto, using(words::proofs::Signs::sub_wraps))]
 fn parameter_index(base: Option<i32>, first: i32, params: i32, index: i32) -> i32
     ensures { result ≡ parameter_index base first params index }
 {
     match base {
         Some(b) => words::param_number(index, b, params),
-        None => words::wrapping_sub_i32(first, index),
+        None => first.wrapping_sub(index),
     }
 }
 
-#[tactic(auto, unfolding(crate::specs::Texts::param_name))]
+#[tactic(auto, using(words::proofs::Signs::same_bits), unfolding(crate::specs::Texts::param_name))]
 fn param_name(out: &mut [u8], at: usize, p: i32) -> usize
     ensures { Put out.old at (param_name p) out.new result }
 {
-    if words::eq_i32(p, 0) {
+    if p == 0 {
         return text::put_bytes(out, at, b"<this>");
     }
-    let n = words::wrapping_sub_i32(p, 1);
+    let n = p.wrapping_sub(1);
     let q = text::put_byte(out, at, b'a');
     text::put_signed32(out, q, n)
 }
@@ -217,20 +213,11 @@ pub fn decode_unchecked(
     layout: &[u8],
     code: &[u8],
     start: usize,
-) -> Decoded
+) -> Result<Option<Instr>, Refusal>
     ensures { result ≡ decodes code.now (opcodes_of opcodes.now) types.now
         (signed_value layout.now 13) start }
 {
     let prefixes = tables::prefix_ops(opcodes);
-    let layout = tables::layout_of(layout);
-    let frame = layout.frame;
-    decoder::decode_at(
-        code,
-        opcodes,
-        types,
-        start,
-        frame.reg_file_start,
-        prefixes.wide as usize,
-        prefixes.extra_wide as usize,
-    )
+    let frame = tables::layout_of(layout).frame;
+    decoder::decode_at(code, opcodes, types, start, frame.reg_file_start, prefixes)
 }

@@ -6,7 +6,7 @@ use mathlib.Core.List.{List, [], ◌∷◌, ◌++◌}
 use native.Mathlib.Omega.{arith}
 use lib.Dec.{leb, ltb}
 use lib.IntN.{ℤ}
-use lib.ListN.{length, drop}
+use lib.ListN.{length, take, drop}
 use Rattle.refusal.specs.declared.Refusal.{Refusal}
 use Rattle.std.specs.Prelude.{Option, Some, None, Result, Ok, Err}
 use Rattle.refusal.specs.Check.{Check}
@@ -23,20 +23,17 @@ use Rattle.serializer.specs.declared.Elem.{Elem}
 use Rattle.layout.specs.Layout.{signed_value}
 use Rattle.tables.specs.Check.{check_table}
 use Rattle.decoder.specs.declared.Instr.{Instr}
-use Rattle.decoder.specs.declared.Outcome.{Outcome}
-use Rattle.decoder.specs.Decode.{operand_types}
-use Rattle.writer.specs.Write.{scale_ok, opcode_fits, operands_ok, given, check_write, written_bytes, write_call}
+use Rattle.decoder.specs.Decode.{Decoded, instr_in, operand_types}
+use Rattle.writer.specs.Write.{all_hold, scale_ok, opcode_fits, operands_ok, given, check_write, written_bytes, write_call}
 use Rattle.flow.specs.Opcodes.{Opcodes, opcodes_of}
 use Rattle.targets.specs.Targets.{here, found, jump_target, jump_table, entry_at}
 use Rattle.function.specs.Files.{Files, check_lent}
 use Rattle.function.specs.Pool.{lent_pool, lent_elem}
-use Rattle.function.specs.Code.{decoded_at, code_check}
-use Rattle.jumps.specs.declared.TargetAnswer.TheVariants as target-answer
-use Rattle.jumps.specs.declared.TableAnswer.TheVariants as table-answer
-use Rattle.jumps.specs.declared.EntryAnswer.TheVariants as entry-answer
+use Rattle.function.specs.Code.{decoded_at}
+use Rattle.jumps.specs.declared.Entry.TheVariants.{Beyond}
 use Rattle.jumps.specs.Numbers.{target_numbers, entry_numbers}
-use Rattle.jumps.specs.Jumps.{target_told, target_after, target_of, target_call, table_told, table_after, table_of, table_call, entry_told, entry_of, entry_call}
-use Rattle.walk.proofs.Rows.{RowOf, table_row, lent_row, decode_row}
+use Rattle.jumps.specs.Jumps.{target_of, target_call, table_told, table_of, table_call, entry_told, entry_of, entry_call}
+use Rattle.walk.proofs.Rows.{RowOf, DecodedRow, table_row, lent_row, decode_row}
 use Rattle.targets.specs.declared.BadSwitch.{BadSwitch}
 
 -- the numbers of a refusal, which has no values
@@ -52,14 +49,20 @@ module _ (at : ℕ) where
   unfolding target_call target_of
   target_row f w code = checked (check_lent f w code) (lent_row f w code)
     where
-      decoded : (o : Outcome) (t : Option ℕ) → RowOf (code_check o) → Told (target_numbers at (target_after o (target_told t)))
-      decoded Outcome.End t row e = some _ _ e
-      decoded (Outcome.Refused r) t row e = ((row.row r refl).least, (row.row r refl).most)
-      decoded Outcome.Done (Some t) row e = some _ _ e
-      decoded Outcome.Done None row e = some _ _ e
+      ops : Opcodes
+      ops = opcodes_of f.opcodes
 
-      checked : (c : Check) → RowOf c → Told (target_numbers at (guarded c target-answer.Refused (target_of (opcodes_of f.opcodes) (lent_elem f w) (decoded_at f code at))))
-      checked (Ok tt) row e = let d = decoded_at f code at in decoded d.outcome (jump_target (lent_elem f w) ((opcodes_of f.opcodes).flow d.instr.opcode) d.instr) (decode_row code (opcodes_of f.opcodes) f.types (signed_value f.layout 13) at) e
+      decoded : (d : Decoded) → DecodedRow d → Told (target_numbers at (target_of ops (lent_elem f w) d))
+      decoded (Ok (Some i)) row e = told (jump_target (lent_elem f w) (ops.flow i.opcode) i) e
+        where
+          told : (t : Option ℕ) → Told (target_numbers at (Ok (Some t)))
+          told (Some t) e = some _ _ e
+          told None e = some _ _ e
+      decoded (Ok None) row e = some _ _ e
+      decoded (Err r) row e = ((row r refl).least, (row r refl).most)
+
+      checked : (c : Check) → RowOf c → Told (target_numbers at (guarded c Err (target_of ops (lent_elem f w) (decoded_at f code at))))
+      checked (Ok tt) row e = decoded (decoded_at f code at) (decode_row code ops f.types (signed_value f.layout 13) at) e
       checked (Err r) row e = ((row.row r refl).least, (row.row r refl).most)
 
   -- ---- entries
@@ -71,9 +74,12 @@ module _ (at : ℕ) where
       el = lent_elem f w
 
       from : ℕ
-      from = here (decoded_at f code at).instr
+      from = here (instr_in (decoded_at f code at))
 
-      entry_told_lem : (b : Bool) (x : Option Case) → Told (entry_numbers at (cond b (entry_told x) entry-answer.Beyond))
+      ops : Opcodes
+      ops = opcodes_of f.opcodes
+
+      entry_told_lem : (b : Bool) (x : Option Case) → Told (entry_numbers at (Ok (Some (Some (cond b (entry_told x) Beyond)))))
       entry_told_lem true (Some c) e = some _ _ e
       entry_told_lem true None e = some _ _ e
       entry_told_lem false x e = some _ _ e
@@ -83,13 +89,13 @@ module _ (at : ℕ) where
       shown (Ok (Some s)) e = entry_told_lem (ltb k s.count) (entry_at el from s k) e
       shown (Err b) e = (omega arith, omega arith)
 
-      decoded : (o : Outcome) (t : Result (Option Entries) BadSwitch) → RowOf (code_check o) → Told (entry_numbers at (entry_of el from (table_after o (table_told t at)) k))
-      decoded Outcome.End t row e = some _ _ e
-      decoded (Outcome.Refused r) t row e = ((row.row r refl).least, (row.row r refl).most)
-      decoded Outcome.Done t row e = shown t e
+      decoded : (d : Decoded) → DecodedRow d → Told (entry_numbers at (entry_of el from (table_of ops (found (lent_pool f w)) d at) k))
+      decoded (Ok (Some i)) row e = shown (jump_table (found (lent_pool f w)) (ops.flow i.opcode) i) e
+      decoded (Ok None) row e = some _ _ e
+      decoded (Err r) row e = ((row r refl).least, (row r refl).most)
 
-      checked : (c : Check) → RowOf c → Told (entry_numbers at (entry_of el from (guarded c table-answer.Refused (table_of (opcodes_of f.opcodes) (found (lent_pool f w)) (decoded_at f code at) at)) k))
-      checked (Ok tt) row e = let d = decoded_at f code at in decoded d.outcome (jump_table (found (lent_pool f w)) ((opcodes_of f.opcodes).flow d.instr.opcode) d.instr) (decode_row code (opcodes_of f.opcodes) f.types (signed_value f.layout 13) at) e
+      checked : (c : Check) → RowOf c → Told (entry_numbers at (entry_of el from (guarded c Err (table_of ops (found (lent_pool f w)) (decoded_at f code at) at)) k))
+      checked (Ok tt) row e = decoded (decoded_at f code at) (decode_row code ops f.types (signed_value f.layout 13) at) e
       checked (Err r) row e = ((row.row r refl).least, (row.row r refl).most)
 
 -- ---- what is written: 1 to 5, 17, and 02's 21 to 23, so that a refusal is never told as 0
@@ -108,7 +114,7 @@ some_write : (ops : Opcodes) (types : List ℕ) (rfs : ℤ) (i : Instr) → Numb
 some_write ops types rfs i =
     let a = scale_ok ops i.scale in
     let b = opcode_fits ops i.scale i.opcode in
-    let c = leb i.count 8 && operands_ok types i.scale rfs false (operand_types ops i.opcode) (given i) in
+    let c = leb i.count 8 && all_hold (take i.count i.operands) && operands_ok types i.scale rfs false (operand_types ops i.opcode) (given i) in
     some_first (refuse_unless a fault.WrongScale) (first_refusal (refuse_unless b fault.WrongOpcode) (refuse_unless c fault.WrongOperands)) (some_unless a fault.WrongScale (omega arith))
     (some_first (refuse_unless b fault.WrongOpcode) (refuse_unless c fault.WrongOperands) (some_unless b fault.WrongOpcode (omega arith)) (some_unless c fault.WrongOperands (omega arith)))
 

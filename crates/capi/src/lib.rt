@@ -7,7 +7,7 @@ ghost use Rattle.std.specs.Prelude.{◌≡◌};
 ghost use Rattle.function.specs.Files.{Files, files_of, lent_files};
 ghost use Rattle.convert.specs.Convert.{to_new_call, to_old_call};
 ghost use Rattle.disasm.specs.Listing.{list_call};
-ghost use Rattle.decoder.specs.declared.Decoded.{Decoded};
+ghost use Rattle.decoder.specs.Decode.{Decoded};
 ghost use Rattle.bytecode.specs.Decode.{decode_one};
 ghost use Rattle.bytecode.specs.Numbers.{decoded_numbers};
 ghost use Rattle.jumps.specs.Jumps.{target_call, entry_call};
@@ -15,8 +15,7 @@ ghost use Rattle.jumps.specs.Numbers.{target_numbers, entry_numbers};
 ghost use Rattle.walk.specs.Walk.{Given, given_of, object_source, object_with, walk_call, walk_with, lent_source, lent_with, walk_lent, walk_lent_with};
 ghost use Rattle.capi.specs.Told.{written_told, buffer_told, no_opcode, write_numbers, WriteReads, walk_numbers, walk_told, WalkPromise, pool_object, numbers_told, decode_told};
 
-use decoder::Outcome;
-use jumps::{EntryAnswer, TargetAnswer};
+use jumps::Entry;
 use refusal::{Fault, Refusal};
 use walk::Walked;
 
@@ -52,7 +51,7 @@ pub fn jscd_to_new(out: &mut [u8], opcodes: &[u8], types: &[u8], place: &mut usi
     tell_written(written, place)
 }
 
-// The way back.
+// The way back, a call of its own: the C interface.
 pub fn jscd_to_old(out: &mut [u8], opcodes: &[u8], types: &[u8], place: &mut usize) -> u8
     ensures { (result, place.new, out.new) ≡ buffer_told (to_old_call opcodes.now types.now out.old) }
 {
@@ -95,7 +94,7 @@ fn no_opcode(check: Result<(), Refusal>) -> Result<usize, Refusal>
     })
 }
 
-// The numbers of an answer of a call that writes into a buffer.
+// The numbers of an answer of a call that writes into a buffer; by hand, as the others below: C is told each kind of answer by other pointers.
 fn tell_written(written: Result<usize, Refusal>, place: &mut usize) -> u8
     ensures { (result, place.new) ≡ written_told written }
 {
@@ -112,7 +111,7 @@ fn tell_written(written: Result<usize, Refusal>, place: &mut usize) -> u8
 }
 
 // The walks of an object. 254: one leaves, its steps in `steps`, the offset it leaves from in `place`. Else `steps` is 0, and `place` the
-// refusal's place or 0. The marks are those of the walk check; after a refusal they are as they were.
+// refusal's place or 0: C has no Option. The marks are those of the walk check; after a refusal they are as they were.
 pub fn jscd_walk(
     marks: &mut [u8],
     opcodes: &[u8],
@@ -225,23 +224,20 @@ pub fn jscd_walk_code_with(
     tell_walked(walked, steps, place)
 }
 
-// The numbers of a walk check's answer.
+// The numbers of a walk check's answer; by hand: the C interface.
 fn tell_walked(walked: Result<Walked, Refusal>, steps: &mut usize, place: &mut usize) -> u8
     ensures { (result, steps.new, place.new) ≡ walk_numbers walked }
 {
+    *steps = 0;
+    *place = 0;
     match walked {
-        Ok(Walked::Closed) => {
-            *steps = 0;
-            *place = 0;
-            0
-        }
+        Ok(Walked::Closed) => 0,
         Ok(Walked::Leaves(n, o)) => {
             *steps = n;
             *place = o;
             254
         }
         Err(r) => {
-            *steps = 0;
             *place = r.place;
             r.fault.number()
         }
@@ -256,7 +252,7 @@ fn pool_object(lent: u8, object: usize) -> Option<usize>
 }
 
 // The target of the jump at a place of lent code: `values` is 1 and the target, or 0 where there is none. 255: the place is the code's end.
-// `place` is that place, the refusal's place, or 0. A value that is not there is 0.
+// `place` is that place, the refusal's place, or 0. A value that is not there is 0: C has no Option.
 pub fn jscd_target(
     code: &[u8],
     at: usize,
@@ -284,7 +280,7 @@ pub fn jscd_target(
 }
 
 // Entry k of the switch at a place of lent code: `values` is 1, the case and the target; 2 where the element is skipped, 3 where the table has no
-// entry k, 0 where there is no table. Else as jscd_target.
+// entry k, 0 where there is no table: C has no enum with values. Else as jscd_target.
 pub fn jscd_entry(
     code: &[u8],
     at: usize,
@@ -312,67 +308,65 @@ pub fn jscd_entry(
     tell_entry(answer, at, place, values)
 }
 
-// The numbers of a target's answer.
-fn tell_target(answer: TargetAnswer, at: usize, place: &mut usize, values: &mut [u64; 2]) -> u8
+// The numbers of a target's answer; by hand: the C interface.
+fn tell_target(
+    answer: Result<Option<Option<u64>>, Refusal>,
+    at: usize,
+    place: &mut usize,
+    values: &mut [u64; 2],
+) -> u8
     ensures { (result, place.new, values.new) ≡ numbers_told 2 (target_numbers at answer) }
 {
+    *place = 0;
+    *values = [0, 0];
     match answer {
-        TargetAnswer::At(t) => {
-            *place = 0;
+        Ok(Some(Some(t))) => {
             *values = [1, t];
             0
         }
-        TargetAnswer::Nothing => {
-            *place = 0;
-            *values = [0, 0];
-            0
-        }
-        TargetAnswer::End => {
+        Ok(Some(None)) => 0,
+        Ok(None) => {
             *place = at;
-            *values = [0, 0];
             255
         }
-        TargetAnswer::Refused(r) => {
+        Err(r) => {
             *place = r.place;
-            *values = [0, 0];
             r.fault.number()
         }
     }
 }
 
-// The numbers of an entry's answer.
-fn tell_entry(answer: EntryAnswer, at: usize, place: &mut usize, values: &mut [u64; 3]) -> u8
+// The numbers of an entry's answer; by hand: the C interface.
+fn tell_entry(
+    answer: Result<Option<Option<Entry>>, Refusal>,
+    at: usize,
+    place: &mut usize,
+    values: &mut [u64; 3],
+) -> u8
     ensures { (result, place.new, values.new) ≡ numbers_told 3 (entry_numbers at answer) }
 {
+    *place = 0;
+    *values = [0, 0, 0];
     match answer {
-        EntryAnswer::Shown { case, target } => {
-            *place = 0;
-            *values = [1, numbers::bits_of(case), target];
+        Ok(Some(Some(Entry::Shown(c)))) => {
+            *values = [1, numbers::bits_of(c.case), c.target];
             0
         }
-        EntryAnswer::Skipped => {
-            *place = 0;
+        Ok(Some(Some(Entry::Skipped))) => {
             *values = [2, 0, 0];
             0
         }
-        EntryAnswer::Beyond => {
-            *place = 0;
+        Ok(Some(Some(Entry::Beyond))) => {
             *values = [3, 0, 0];
             0
         }
-        EntryAnswer::Nothing => {
-            *place = 0;
-            *values = [0, 0, 0];
-            0
-        }
-        EntryAnswer::End => {
+        Ok(Some(None)) => 0,
+        Ok(None) => {
             *place = at;
-            *values = [0, 0, 0];
             255
         }
-        EntryAnswer::Refused(r) => {
+        Err(r) => {
             *place = r.place;
-            *values = [0, 0, 0];
             r.fault.number()
         }
     }
@@ -393,23 +387,19 @@ pub fn jscd_decode(
     ensures { let d : Decoded = decode_one opcodes.now types.now layout.now code.now start in
         (result, place.new, numbers.new) ≡ decode_told (decoded_numbers start d) numbers.old }
 {
-    let decoded = bytecode::decode(opcodes, types, layout, code, start);
-    let outcome = decoded.outcome;
-    let instr = decoded.instr;
-    match outcome {
-        Outcome::End => {
+    match bytecode::decode(opcodes, types, layout, code, start) {
+        Ok(Some(instr)) => {
+            *place = instr.end;
+            *numbers = numbers::instr_numbers(instr);
+            0
+        }
+        Ok(None) => {
             *place = start;
             255
         }
-        Outcome::Refused(r) => {
+        Err(r) => {
             *place = r.place;
             r.fault.number()
-        }
-        Outcome::Done => {
-            *place = instr.end;
-            let told = numbers::instr_numbers(instr);
-            *numbers = told;
-            0
         }
     }
 }

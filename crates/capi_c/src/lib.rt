@@ -5,7 +5,7 @@ ghost use Rattle.std.specs.Prelude.{◌≡◌};
 ghost use Rattle.function.specs.Files.{Files, files_of, lent_files};
 ghost use Rattle.convert.specs.Convert.{to_new_call, to_old_call};
 ghost use Rattle.disasm.specs.Listing.{list_call};
-ghost use Rattle.decoder.specs.declared.Decoded.{Decoded};
+ghost use Rattle.decoder.specs.Decode.{Decoded};
 ghost use Rattle.bytecode.specs.Decode.{decode_one};
 ghost use Rattle.bytecode.specs.Numbers.{decoded_numbers};
 ghost use Rattle.jumps.specs.Jumps.{target_call, entry_call};
@@ -72,7 +72,7 @@ pub extern "C" fn jscd_write(
 }
 
 // The walks of an object. 254: one leaves, its steps in `steps`, the offset it leaves from in `place`. Else `steps` is 0, and `place` the
-// refusal's place or 0. The marks are those of the walk check; after a refusal they are as they were.
+// refusal's place or 0: C has no Option. The marks are those of the walk check; after a refusal they are as they were.
 #[unsafe(no_mangle)]
 pub extern "C" fn jscd_walk(
     marks: &mut [u8],
@@ -186,7 +186,7 @@ pub extern "C" fn jscd_walk_code_with(
 }
 
 // The target of the jump at a place of lent code: `values` is 1 and the target, or 0 where there is none. 255: the place is the code's end.
-// `place` is that place, the refusal's place, or 0. A value that is not there is 0.
+// `place` is that place, the refusal's place, or 0. A value that is not there is 0: C has no Option.
 #[unsafe(no_mangle)]
 pub extern "C" fn jscd_target(
     code: &[u8],
@@ -213,7 +213,7 @@ pub extern "C" fn jscd_target(
 }
 
 // Entry k of the switch at a place of lent code: `values` is 1, the case and the target; 2 where the element is skipped, 3 where the table has no
-// entry k, 0 where there is no table. Else as jscd_target.
+// entry k, 0 where there is no table: C has no enum with values. Else as jscd_target.
 #[unsafe(no_mangle)]
 pub extern "C" fn jscd_entry(
     code: &[u8],

@@ -18,7 +18,7 @@ use Rattle.layout.specs.Layout.{ranges, range_of, layout_of}
 use Rattle.tables.specs.Check.{whole_records, check_table}
 use Rattle.operand.specs.Operand.{kinds, kind_of, of_kind, interpret, is_list}
 use Rattle.operand.specs.declared.Operand.{Operand}
-use Rattle.operand.specs.declared.Operand.TheVariants.{Nothing, Reg, RegList, Imm, Idx, RuntimeId}
+use Rattle.operand.specs.declared.Operand.TheVariants.{Reg, RegList, Imm, Idx, RuntimeId}
 use Rattle.decoder.specs.Decode.{instr_of}
 use Rattle.writer.specs.Bytes.{operand_bytes, bytes_by, head_bytes, instr_bytes}
 use Rattle.writer.specs.Write.{same_operand, back_as, reads_back, operands_ok, scale_ok, opcode_fits, write_call}
@@ -27,6 +27,10 @@ use Rattle.sample.specs.Sample.{padded, opcode, typed, opcodes, types, four, fou
 -- an opcode at a scale with operands, into n bytes of 7
 abbrev written : ℕ → ℕ → List Operand → ℕ → Result ℕ Refusal × List ℕ
 written scale op os n = write_call opcodes types layout (instr_of 0 op scale 0 os) (replicate n 7)
+
+-- the same with one operand, whose place is empty
+abbrev written_empty : ℕ → ℕ → ℕ → Result ℕ Refusal × List ℕ
+written_empty scale op n = write_call opcodes types layout (record (instr_of 0 op scale 0 []) { count = 1 }) (replicate n 7)
 
 abbrev sevens : Fault → Result ℕ Refusal × List ℕ
 sevens f = (Err (refusal_at f 0), replicate 5 7)
@@ -61,7 +65,7 @@ pub refused-cases :
     ∷ written 1 4 (Idx 250 ∷ []) 5
     ∷ written 1 4 [] 5
     ∷ written 1 11 (Reg (pos 0) ∷ []) 5
-    ∷ written 1 4 (Nothing ∷ []) 5
+    ∷ written_empty 1 4 5
     ∷ written 4 3 (Imm (pos 1) ∷ []) 5
     ∷ [])
     ≡ sevens fault.WrongScale ∷ sevens fault.WrongOpcode ∷ sevens fault.WrongOpcode ∷ sevens fault.WrongOpcode

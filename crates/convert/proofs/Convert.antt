@@ -1,20 +1,21 @@
 -- What a converted file holds, record by record. Assumes nothing.
 use Prim.Native.Nat.{ℕ, ◌+◌, ◌-◌, ◌*◌, ◌/◌, ◌<◌, ◌≤◌}
-use mathlib.Core.Path.{◌≡◌, ap, ◌∙◌}
+use mathlib.Core.Path.{◌≡◌, refl, ap, ◌∙◌}
 use mathlib.Core.List.{List, ◌++◌, append_assoc}
 use native.Mathlib.Omega.{arith}
-use lib.ListN.{length, get_or, take, drop, replicate, length-append, length-drop, get_or-append}
-use lib.Seq.{length-take-le, get_or-take, get_or-drop, get_or-append-add, take_at}
+use lib.ListN.{length, get_or, take, drop, replicate, length-append, length-drop}
+use lib.Seq.{length-take-le, get_or-append-add, take_at}
 use Rattle.convert.specs.Records.{joined}
 use Rattle.convert.specs.Convert.{flow_bytes, named_flow, fields, new_record, new_file, old_record, old_file}
+use Rattle.convert.specs.mirror.Forms.{other, record_as, file_as}
+use Rattle.tables.specs.Records.{size_as}
+use Rattle.tables.specs.declared.Form.{Form}
+use Rattle.tables.specs.declared.Form.TheVariants.{Old, New}
 use Rattle.convert.proofs.Records.{joined_length, joined_at, joined_byte}
 
 -- the 50 bytes that both forms have, from a record that lies within its file
 pub fields_long : (s : List ℕ) (at : ℕ) → at + 50 ≤ length s → length (fields s at) ≡ 50
 fields_long s at h = length-take-le 50 (drop at s) (rw length-drop (omega arith))
-
-fields_byte : (s : List ℕ) (at k : ℕ) → k < 50 → get_or (fields s at) k 0 ≡ get_or s (at + k) 0
-fields_byte s at k l = get_or-take 50 (drop at s) k 0 l ∙ get_or-drop at s k 0
 
 -- ---- to new
 module _ (ops : List ℕ) where
@@ -33,14 +34,6 @@ module _ (ops : List ℕ) where
 
   pub new_rest : (k : ℕ) → new_record ops k ≡ fields ops (k * 64) ++ (flow_bytes (named_flow ops (k * 64)) ++ replicate 18 0)
   new_rest k = append_assoc (fields ops (k * 64)) (flow_bytes (named_flow ops (k * 64))) (replicate 18 0)
-
-  -- name, mark, count and codes are as they were
-  pub new_byte : (op k : ℕ) → op < n → k < 50 → get_or (new_file ops) (op * 72 + k) 0 ≡ get_or ops (op * 64 + k) 0
-  unfolding new_file
-  new_byte op k h l =
-      joined_byte (new_record ops) 72 n new_long op k h (omega arith) ∙ ap (λ (x : List ℕ). get_or x k 0) (new_rest op)
-      ∙ get_or-append (fields ops (op * 64)) (flow_bytes (named_flow ops (op * 64)) ++ replicate 18 0) 0 k (omega (arith, fields_long ops (op * 64) (omega arith)))
-      ∙ fields_byte ops (op * 64) k l
 
   -- byte 50 + i of a new record is byte i of the flow's, then zeros
   pub flow_byte : (op i : ℕ) → op < n → i < 22 → get_or (new_file ops) (op * 72 + (50 + i)) 0 ≡ get_or (flow_bytes (named_flow ops (op * 64)) ++ replicate 18 0) i 0
@@ -88,3 +81,13 @@ module _ (ops : List ℕ) where
       let e : 50 + i ≡ length (fields ops (op * 72)) + i = omega (arith, fields_long ops (op * 72) (omega arith)) in
       joined_byte (old_record ops) 64 m old_long op (50 + i) h (omega arith)
       ∙ ap (λ (x : ℕ). get_or (old_record ops op) x 0) e ∙ get_or-append-add (fields ops (op * 72)) (replicate 14 0) i 0
+
+-- ---- in either form
+pub file_joined : (to : Form) (ops : List ℕ) → joined (record_as to ops) 0 (length ops / size_as (other to)) ≡ file_as to ops
+unfolding new_file old_file
+file_joined New ops = refl
+file_joined Old ops = refl
+
+pub file_length : (to : Form) (ops : List ℕ) → length (file_as to ops) ≡ length ops / size_as (other to) * size_as to
+file_length New ops = new_length ops
+file_length Old ops = old_length ops

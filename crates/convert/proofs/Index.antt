@@ -5,7 +5,9 @@ use mathlib.Core.List.{List, [], ◌∷◌}
 use mathlib.Core.Bool.{Bool, true, false, ◌&&◌}
 use native.Mathlib.Omega.{arith}
 use native.Mathlib.Nat.{zero-add}
-use borrow.Author.Tests.{eqb-true}
+use borrow.Author.Tests.{eqb-true, lt-ltb}
+use Rattle.std.specs.Prelude.{Some, None}
+use Rattle.laws.specs.Scan.{first_from}
 use lib.Dec.{eqb}
 use lib.ListN.{length, get_or}
 use Rattle.laws.proofs.Scan.{first_is}
@@ -13,7 +15,7 @@ use Rattle.laws.proofs.Tests.{and_left, and_right, clash}
 use Rattle.tables.specs.Records.{opcode_name_size}
 use Rattle.tables.proofs.Rows.{named_byte}
 use Rattle.convert.specs.Names.{flow_names, has_flow_name, flow_number}
-use Rattle.convert.specs.mirror.Index.{place_of, Indexed}
+use Rattle.convert.specs.mirror.Index.{place_of, number_as, Indexed}
 
 -- ---- the index is right, tested at each name
 unfoldable pub index_right : List ℕ → ℕ → List (List ℕ) → Bool
@@ -49,13 +51,19 @@ module _ (ops : List ℕ) (at : ℕ) (t : List ℕ) (right : Indexed t) (k : ℕ
       sym (right.number j l) ∙ sym (is ∙ rw (b 2 (omega arith), b 7 (omega arith), b 12 (omega arith), b 17 (omega arith), b 24 (omega arith)))
 
   -- it is the record's, or the record has none
-  pub number_is : k < 37 → has_flow_name ops at k ≡ true → k ≡ flow_number ops at
+  pub number_is : k < 37 → has_flow_name ops at k ≡ true → Some k ≡ number_as (flow_number ops at)
   unfolding flow_number
-  number_is l h = sym (first_is (has_flow_name ops at) 0 37 k (omega arith) (omega arith) (λ j low m. not_name_lem _ (λ e. let z : j ≡ k = one_name j (omega arith) e in omega arith)) (λ m. h))
+  number_is l h = rw (is_first, lt-ltb k 37 l)
+    where
+      is_first : first_from (has_flow_name ops at) 0 37 ≡ k
+      is_first = first_is (has_flow_name ops at) 0 37 k (omega arith) (omega arith) (λ j low m. not_name_lem _ (λ e. let z : j ≡ k = one_name j (omega arith) e in omega arith)) (λ m. h)
 
-  pub number_none : (k < 37 → has_flow_name ops at k ≡ false) → 37 ≡ flow_number ops at
+  pub number_none : (k < 37 → has_flow_name ops at k ≡ false) → None ≡ number_as (flow_number ops at)
   unfolding flow_number
-  number_none h = sym (first_is (has_flow_name ops at) 0 37 37 (omega arith) (omega arith) (λ j low m. not_name_lem _ (λ e. other j m e (one_name j m e))) (λ m. absurd (omega arith)))
+  number_none h = rw is_last
     where
       other : (j : ℕ) → j < 37 → has_flow_name ops at j ≡ true → j ≡ k → ⊥
       other j m e same = clash e (ap (has_flow_name ops at) same ∙ h (omega arith))
+
+      is_last : first_from (has_flow_name ops at) 0 37 ≡ 37
+      is_last = first_is (has_flow_name ops at) 0 37 37 (omega arith) (omega arith) (λ j low m. not_name_lem _ (λ e. other j m e (one_name j m e))) (λ m. absurd (omega arith))

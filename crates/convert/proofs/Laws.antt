@@ -1,36 +1,34 @@
 -- Laws that the functions' proofs cite: how a record is put, and what a search for the first record with another flow says. Assumes nothing.
-use Prim.Native.Nat.{ℕ, ◌+◌, ◌-◌, ◌<◌, ◌≤◌, ◌^◌}
+use Prim.Native.Nat.{ℕ, ◌+◌, ◌-◌, ◌*◌, ◌<◌, ◌≤◌, ◌^◌}
 use mathlib.Core.Path.{◌≡◌, refl, ◌∙◌}
 use mathlib.Core.Bool.{Bool, true, false}
-use mathlib.Core.List.{List, [], ◌∷◌, ◌++◌}
+use mathlib.Core.List.{List}
 use borrow.Author.Tests.{le-ltb, lt-leb}
-use lib.ListN.{length, take, drop}
+use lib.ListN.{length, take, drop, replicate}
 use Rattle.laws.specs.Scan.{first_from}
 use Rattle.laws.proofs.Scan.{first-here, first_next, first_end}
-use Rattle.refusal.specs.declared.Refusal.{Refusal}
-use Rattle.std.specs.Prelude.{Result, Ok, Err}
-use Rattle.refusal.specs.Check.{Check}
+use Rattle.std.specs.Prelude.{Ok, Err}
 use Rattle.refusal.specs.declared.Fault.{Fault}
 use Rattle.refusal.specs.declared.Fault.TheVariants.{ShortOutput}
-use Rattle.refusal.specs.Check.{refusal_at, at_record, first_bad, guarded_on}
+use Rattle.refusal.specs.Check.{refusal_at, at_record, first_bad}
 use Rattle.text.specs.Put.{Put}
 use Rattle.text.specs.Written.{put_text}
 use Rattle.text.specs.mirror.Written.{WrittenBy}
 use Rattle.text.proofs.Put.{then}
-use Rattle.convert.specs.Convert.{fields}
+use Rattle.tables.specs.Records.{opcode_start, old_size}
+use Rattle.convert.specs.Convert.{fields, flow_bytes, named_flow, new_record, old_record}
 
 -- ---- bytes and records, put one behind the other
-pub four_put : {o o₁ o₂ o₃ o₄ : List ℕ} {p r₁ r₂ r₃ r₄ a b c d : ℕ} → length o ≤ 2 ^ 63
-    → Put o p (a ∷ []) o₁ r₁ → Put o₁ r₁ (b ∷ []) o₂ r₂ → Put o₂ r₂ (c ∷ []) o₃ r₃ → Put o₃ r₃ (d ∷ []) o₄ r₄ → Put o p (a ∷ b ∷ c ∷ d ∷ []) o₄ r₄
-four_put h w x y z = then h (then h (then h w x) y) z
-
-pub three_put : {o o₁ o₂ o₃ : List ℕ} {p r₁ r₂ r₃ : ℕ} {a b c : List ℕ} → length o ≤ 2 ^ 63
-    → Put o p a o₁ r₁ → Put o₁ r₁ b o₂ r₂ → Put o₂ r₂ c o₃ r₃ → Put o p (a ++ b ++ c) o₃ r₃
-three_put h x y z = then h (then h x y) z
-
 -- the fields of a record, put from the file
 pub fields_put : {o o' : List ℕ} {p r w : ℕ} (s : List ℕ) (from : ℕ) → Put o p (take w (drop from s)) o' r → w ≡ 50 → Put o p (fields s from) o' r
 fields_put s from put e = rw e at put
+
+module _ {o o₁ o₂ : List ℕ} {p r₁ r₂ w from : ℕ} (ops : List ℕ) (k : ℕ) (small : length o ≤ 2 ^ 63) (few : w ≡ 50) (put : Put o p (take w (drop from ops)) o₁ r₁) where
+  pub old_put : from ≡ opcode_start k → Put o₁ r₁ (replicate 14 0) o₂ r₂ → Put o p (old_record ops k) o₂ r₂
+  old_put e z = then small (rw e at (fields_put ops from put few)) z
+
+  pub new_put : {o₃ : List ℕ} {r₃ : ℕ} → from ≡ k * old_size → Put o₁ r₁ (flow_bytes (named_flow ops from)) o₂ r₂ → Put o₂ r₂ (replicate 18 0) o₃ r₃ → Put o p (new_record ops k) o₃ r₃
+  new_put e f z = rw e at (then small (then small (fields_put ops from put few) f) z)
 
 -- ---- the first bad record, as a loop that has passed the records below k finds it
 module _ (fault : Fault) (bad : ℕ → Bool) (n k : ℕ) (passed : first_from bad 0 n ≡ first_from bad k (n - k)) where
@@ -42,14 +40,6 @@ module _ (fault : Fault) (bad : ℕ → Bool) (n k : ℕ) (passed : first_from b
 
   pub bad_end : n ≤ k → Ok tt ≡ first_bad fault bad n
   bad_end l = rw (passed ∙ first_end bad k n l, le-ltb k n l)
-
--- ---- a call by its check
-module _ (check : Check) (o : List ℕ) (answer : Result ℕ Refusal × List ℕ) where
-  pub call_refused : {r : Refusal} → check ≡ Err r → WrittenBy (guarded_on check Err o answer) (Err r) o
-  call_refused h = rw h (refl, refl)
-
-  pub call_written : {r : Result ℕ Refusal} {o' : List ℕ} → check ≡ Ok tt → WrittenBy answer r o' → WrittenBy (guarded_on check Err o answer) r o'
-  call_written h w = rw h w
 
 -- a text that does not fit
 pub written_short : (t o : List ℕ) → length o < length t → WrittenBy (put_text t o) (Err (refusal_at ShortOutput 0)) o

@@ -4,12 +4,24 @@ ghost use Rattle.tables.specs.Records.{opcode_name_size};
 ghost use Rattle.tables.specs.mirror.Rows.{rows};
 ghost use Rattle.flow.specs.Flow.{plain};
 ghost use Rattle.convert.specs.Names.{flow_names, has_flow_name, flow_number, flow_by};
-ghost use Rattle.convert.specs.mirror.Index.{place_of, Indexed};
+ghost use Rattle.convert.specs.Convert.{named_flow};
+ghost use Rattle.convert.specs.mirror.Index.{place_of, number_as, Indexed};
 
 use flow::{Flow, Kind};
 
+// The flow of the name that the opcode record at place at has; with none of the 37 it goes on.
+pub(crate) fn named_flow(opcodes: &[u8], at: usize) -> Flow
+    ensures { result ≡ named_flow opcodes.now at }
+{
+    match flow_number(opcodes, at) {
+        Some(k) => flow_by(k),
+        None => plain(Kind::On, false),
+    }
+}
+
 // The flow of a number.
-pub(crate) fn flow_by(k: u8) -> Flow
+#[tactic(auto, unfolding(crate::specs::Names::flow_by, crate::specs::Names::flows))]
+fn flow_by(k: u8) -> Flow
     ensures { result ≡ flow_by k }
 {
     match k {
@@ -47,9 +59,9 @@ fn plain(kind: Kind, pool: bool) -> Flow
     }
 }
 
-// The first of the 37 names that the opcode record at place at has; 37 where it has none.
-pub(crate) fn flow_number(opcodes: &[u8], at: usize) -> u8
-    ensures { result ≡ flow_number opcodes.now at }
+// The number of the first of the 37 names that the opcode record at place at has.
+fn flow_number(opcodes: &[u8], at: usize) -> Option<u8>
+    ensures { result ≡ number_as (flow_number opcodes.now at) }
 {
     number_by(opcodes, at, &FLOW_NAMES, &FLOW_INDEX)
 }
@@ -94,7 +106,7 @@ const FLOW_NAMES: [u8; 1480] = *b"\
     SwitchOnSmiNoFeedback\0\0\0\0\0\0\0\0\0\0\0\0\0\0\0\0\0\0\0\
     SwitchOnGeneratorState\0\0\0\0\0\0\0\0\0\0\0\0\0\0\0\0\0\0";
 
-// The number of each name at its place (`place_of`): no two names have one. Elsewhere 37, which is %.
+// The number of each name at its place (`place_of`): no two names have one. Elsewhere %, which is 37, no name's number.
 const FLOW_INDEX: [u8; 256] = *b"\
     %%%%%%%%%%\x1d%%%%%\
     %%%\x1e%\x22%\x18%%%\x01%%%%\
@@ -114,23 +126,21 @@ const FLOW_INDEX: [u8; 256] = *b"\
     %%%%%%%%%%%%%%%%";
 
 // The number by both tables: at most one name is compared, and for most records none.
-fn number_by(opcodes: &[u8], at: usize, names: &[u8], index: &[u8; 256]) -> u8
+fn number_by(opcodes: &[u8], at: usize, names: &[u8], index: &[u8; 256]) -> Option<u8>
     requires { (names.now ≡ rows opcode_name_size flow_names) × Indexed index.now }
-    ensures { result ≡ flow_number opcodes.now at }
+    ensures { result ≡ number_as (flow_number opcodes.now at) }
 {
     let p = place_of(opcodes, at);
     let k = index[p];
-    if 37 <= k {
-        return 37;
-    }
-    if has_flow_name(opcodes, at, names, k) {
-        k
+    if k < 37 && has_flow_name(opcodes, at, names, k) {
+        Some(k)
     } else {
-        37
+        None
     }
 }
 
 // The place of the name of the record at place at: the sum of five of its bytes.
+#[tactic(auto, unfolding(crate::specs::mirror::Index::place_of))]
 fn place_of(opcodes: &[u8], at: usize) -> usize
     ensures { result ≡ place_of opcodes.now at }
 {

@@ -54,7 +54,9 @@ fn print(rt: &(impl Print + Eprint), to: Form, opcodes: &[u8], types: &[u8]) {
     let written = converted(to, &mut out, opcodes, types);
     match written {
         Ok(n) => print_file(rt, &out, n),
-        Err(r) => print_refusal(rt, r),
+        Err(r) => {
+            let _ = eprintln!(rt; "{r}");
+        }
     }
 }
 
@@ -71,10 +73,4 @@ fn print_file(rt: &(impl Print + Eprint), out: &[u8], n: usize) {
     if let Err(error) = rt.write_all(serializer::lent(out, 0, n)) {
         inputs::fail(rt, b"standard output", error);
     }
-}
-
-fn print_refusal(rt: &impl Eprint, r: Refusal) {
-    let number = r.fault.number();
-    let place = r.place;
-    let _ = eprintln!(rt; "refused {number} at {place}");
 }

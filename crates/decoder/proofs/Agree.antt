@@ -18,25 +18,22 @@ use Rattle.refusal.specs.Check.{refusal_at}
 use Rattle.tables.specs.Records.{width}
 use Rattle.flow.specs.Opcodes.{Opcodes}
 use Rattle.operand.specs.Operand.{is_list, interpret}
-use Rattle.operand.specs.mirror.Step.{is_counted, value_at, operand_at}
+use Rattle.operand.specs.mirror.Step.{read, is_counted, value_at, operand_at}
 use Rattle.operand.specs.declared.Operand.{Operand}
-use Rattle.operand.specs.declared.Step.TheVariants.{Skip, Short, Read}
-use Rattle.decoder.specs.declared.OperandRecord.{OperandRecord}
-use Rattle.decoder.specs.declared.Outcome.{Outcome}
-use Rattle.prefix.specs.declared.Head.{Head}
-use Rattle.decoder.specs.declared.Decoded.{Decoded}
-use Rattle.decoder.specs.mirror.Steps.{Operands, start_ops, after_step, step_ops, run_ops, operands_at, of_ops, of_head, steps_at}
-use Rattle.decoder.specs.Decode.{blank}
-use Rattle.prefix.specs.Head.{head_at}
+use Rattle.std.specs.Prelude.{Some, None, Result, Ok, Err}
+use Rattle.tables.specs.declared.Prefixes.{Prefixes}
+use Rattle.decoder.specs.mirror.Steps.{Operands, start_ops, after_step, step_on, run_ops, operands_at, of_ops, of_head, steps_at}
+use Rattle.prefix.specs.Head.{Begins, head_at}
 use Rattle.decoder.proofs.Laws.{not_list}
-use Rattle.decoder.specs.Decode.{codes_from, operand_types, Part, own, count, parts_from, part_width, offset_of, operand_at_part, operands_from, is_short, short_fault, record_of, records_of, instr_of, refused_at, read_parts, decode_head, decode_at}
+use Rattle.decoder.specs.declared.OperandRecord.{OperandRecord}
+use Rattle.decoder.specs.Decode.{Decoded, record_of, codes_from, operand_types, Part, own, count, parts_from, part_width, offset_of, operand_at_part, operands_from, is_short, short_fault, places_of, instr_of, refused_at, read_parts, decode_head, decode_at}
 use Rattle.refusal.specs.declared.Fault.TheVariants as fault
 
--- ---- lists of operands and their records
-more_records : (n : ℕ) (os : List Operand) (o : Operand) → length os < n → set (records_of n os) (length os) (record_of o) ≡ records_of n (os ++ (o ∷ []))
-more_records zero os o h = absurd (not-suc-le-zero h)
-more_records (suc n) [] o h = refl
-more_records (suc n) (x ∷ os) o h = ap (λ (l : List OperandRecord). record_of x ∷ l) (more_records n os o (le_of_suc-le-suc h))
+-- ---- lists of operands and their places
+more_places : (n : ℕ) (os : List Operand) (o : Operand) → length os < n → set (places_of n os) (length os) (record_of (Some o)) ≡ places_of n (os ++ (o ∷ []))
+more_places zero os o h = absurd (not-suc-le-zero h)
+more_places (suc n) [] o h = refl
+more_places (suc n) (x ∷ os) o h = ap (λ (l : List OperandRecord). record_of (Some x) ∷ l) (more_places n os o (le_of_suc-le-suc h))
 
 -- ---- what reading one type after the other gives
 pub data Got : Type 0 where
@@ -72,43 +69,35 @@ module _ (code types : List ℕ) (scale : ℕ) (rfs : ℤ) where
       (bad (refusal_at fault.EndsInOperand at)))
 
   -- ---- the code's steps give that
-  run_list : List ℕ → Operands → Operands
-  run_list [] s = s
-  run_list (t ∷ ts) s = run_list ts (step_ops code types scale rfs t s)
+  run_list : List ℕ → Operands → Result Operands Refusal
+  run_list [] s = Ok s
+  run_list (t ∷ ts) s = step_on (operand_at code types t s.before scale s.at rfs) t s (run_list ts)
 
   run_list_lem : (opcodes : Opcodes) (opcode n k : ℕ) (s : Operands) → run_ops code opcodes types opcode scale rfs n k s ≡ run_list (codes_from opcodes opcode k n) s
   unfolding run_ops run_list
   run_list_lem opcodes opcode zero k s = refl
-  run_list_lem opcodes opcode (suc n) k s = run_list_lem opcodes opcode n (k + 1) (step_ops code types scale rfs (opcodes.code opcode k) s)
+  run_list_lem opcodes opcode (suc n) k s =
+      let t = opcodes.code opcode k in
+      ap (step_on (operand_at code types t s.before scale s.at rfs) t s) (λ i x. run_list_lem opcodes opcode n (k + 1) x i)
 
   -- operands that are read as far as place at
   abbrev state : ℕ → ℕ → List Operand → Operands
-  state at before os = record { outcome = Outcome.Done; at = at; count = length os; before = before; slots = records_of 8 os }
-
-  run_stopped : (ts : List ℕ) (r : Refusal) (t : ℕ) (s : Operands) → run_list ts (after_step (Short r) t s) ≡ after_step (Short r) t s
-  unfolding run_list
-  run_stopped [] r t s = refl
-  run_stopped (u ∷ ts) r t s = run_stopped ts r t s
+  state at before os = record { at = at; count = length os; before = before; slots = places_of 8 os }
 
   module _ (start opcode : ℕ) where
     abbrev pub of_got : List Operand → Got → Decoded
-    of_got os (bad r) = record { outcome = Outcome.Refused r; instr = blank }
-    of_got os (good e more) = record { outcome = Outcome.Done; instr = instr_of start opcode scale e (os ++ more) }
+    of_got os (bad r) = Err r
+    of_got os (good e more) = Ok (Some (instr_of start opcode scale e (os ++ more)))
 
     of_add : (os : List Operand) (o : Operand) (g : Got) → of_got (os ++ (o ∷ [])) g ≡ of_got os (add o g)
     of_add os o (bad r) = refl
     of_add os o (good e more) = rw (append_assoc os (o ∷ []) more)
 
-    -- the first short operand is the answer
-    pub run_short : (opcodes : Opcodes) (n k : ℕ) (r : Refusal) (t : ℕ) (s : Operands)
-        → of_ops start opcode scale (run_ops code opcodes types opcode scale rfs n k (after_step (Short r) t s)) ≡ record { outcome = Outcome.Refused r; instr = blank }
-    run_short opcodes n k r t s = ap (of_ops start opcode scale) (run_list_lem opcodes opcode n k (after_step (Short r) t s) ∙ run_stopped (codes_from opcodes opcode k n) r t s)
-
     -- one more operand
-    read_state : (at before t next : ℕ) (os : List Operand) (o : Operand) → length os < 8 → after_step (Read o next) t (state at before os) ≡ state next t (os ++ (o ∷ []))
+    read_state : (at before t next : ℕ) (os : List Operand) (o : Operand) → length os < 8 → after_step (Some (record { operand = o; next = next })) t (state at before os) ≡ state next t (os ++ (o ∷ []))
     read_state at before t next os o h =
         let n : length os + 1 ≡ length (os ++ (o ∷ [])) = sym (length-append os (o ∷ [])) in
-        rw (more_records 8 os o h, n)
+        rw (more_places 8 os o h, n)
 
     steps_got : (ts : List ℕ) (at before : ℕ) (os : List Operand) → length os + length ts ≤ 8
         → of_ops start opcode scale (run_list ts (state at before os)) ≡ of_got os (got (is_list before) at ts)
@@ -127,7 +116,7 @@ module _ (code types : List ℕ) (scale : ℕ) (rfs : ℤ) where
         -- the state after an operand, and what is read from there on
         on : (o : Operand) (next : ℕ) (b : Bool) → is_list t ≡ b
             → ((a d : ℕ) (l : List Operand) → length l + length ts ≤ 8 → of_ops start opcode scale (run_list ts (state a d l)) ≡ of_got l (got (is_list d) a ts))
-            → of_ops start opcode scale (run_list ts (after_step (Read o next) t (state at before os))) ≡ of_got os (add o (got b next ts))
+            → of_ops start opcode scale (step_on (read o next) t (state at before os) (run_list ts)) ≡ of_got os (add o (got b next ts))
         on o next b f rest =
             ap (λ (x : Operands). of_ops start opcode scale (run_list ts x)) (read_state at before t next os o (omega arith))
             ∙ rest next t (os ++ (o ∷ [])) (omega (arith, length-append os (o ∷ [])))
@@ -135,13 +124,13 @@ module _ (code types : List ℕ) (scale : ℕ) (rfs : ℤ) where
 
         go : (p q r u : Bool) → is_counted t before ≡ p → is_list t ≡ r
             → ((a b : ℕ) (l : List Operand) → length l + length ts ≤ 8 → of_ops start opcode scale (run_list ts (state a b l)) ≡ of_got l (got (is_list b) a ts))
-            → of_ops start opcode scale (run_list ts (after_step (cond p Skip (cond q (cond r (cond u (Read (interpret t (value_at code at w) w (value_at code (at + w) cw % 2 ^ 32) rfs) (at + w + cw)) (Short (refusal_at fault.EndsInCount (at + w)))) (Read (interpret t (value_at code at w) w 0 rfs) (at + w))) (Short (refusal_at fault.EndsInOperand at)))) t (state at before os)))
+            → of_ops start opcode scale (step_on (cond p (Ok None) (cond q (cond r (cond u (read (interpret t (value_at code at w) w (value_at code (at + w) cw % 2 ^ 32) rfs) (at + w + cw)) (Err (refusal_at fault.EndsInCount (at + w)))) (read (interpret t (value_at code at w) w 0 rfs) (at + w))) (Err (refusal_at fault.EndsInOperand at)))) t (state at before os) (run_list ts))
             ≡ of_got os (cond p (got false at ts) (cond q (cond r (cond u (add (interpret t (value at w) w (value (at + w) cw % 2 ^ 32) rfs) (got true (at + w + cw) ts)) (bad (refusal_at fault.EndsInCount (at + w)))) (add (interpret t (value at w) w 0 rfs) (got false (at + w) ts))) (bad (refusal_at fault.EndsInOperand at))))
         go true q r u e f rest =
             rest at t os (omega arith) ∙ ap (λ (x : Bool). of_got os (got x at ts)) (not_list t (eqb-true t 8 (and_left (eqb t 8) (is_list before) e)))
-        go false false r u e f rest = ap (of_ops start opcode scale) (run_stopped ts (refusal_at fault.EndsInOperand at) t (state at before os))
+        go false false r u e f rest = refl
         go false true false u e f rest = rw (value_is at t) (on (interpret t (value at w) w 0 rfs) (at + w) false f rest)
-        go false true true false e f rest = ap (of_ops start opcode scale) (run_stopped ts (refusal_at fault.EndsInCount (at + w)) t (state at before os))
+        go false true true false e f rest = refl
         go false true true true e f rest =
             rw (value_is at t, value_is (at + w) 8) (on (interpret t (value at w) w (value (at + w) cw % 2 ^ 32) rfs) (at + w + cw) true f rest)
 
@@ -150,7 +139,7 @@ module _ (code types : List ℕ) (scale : ℕ) (rfs : ℤ) where
     up_to os at ps k =
         let ws = map (part_width types scale) ps in
         cond (ltb k (length ps)) (refused_at (short_fault (get_or ps k count)) (at + offset_of ws k))
-        (record { outcome = Outcome.Done; instr = instr_of start opcode scale (at + offset_of ws (length ps)) (os ++ operands_from code ws at rfs 0 ps) })
+        (Ok (Some (instr_of start opcode scale (at + offset_of ws (length ps)) (os ++ operands_from code ws at rfs 0 ps))))
 
     abbrev pub first_short : ℕ → List Part → ℕ
     first_short at ps = first_from (is_short code (map (part_width types scale) ps) at) 0 (length ps)
@@ -267,7 +256,7 @@ module _ (code types : List ℕ) (scale : ℕ) (rfs : ℤ) where
             ∙ ap (λ (l : List Operand). read_with l (at + tw + cw) (parts_from true ts)) (append-nil os')
             ∙ ap (λ (x : Operand). read_with (os ++ (x ∷ [])) (at + tw + cw) (parts_from true ts)) (list_head t at ws' f))
 
-codes_length : (ops : Opcodes) (op k n : ℕ) → length (codes_from ops op k n) ≡ n
+pub codes_length : (ops : Opcodes) (op k n : ℕ) → length (codes_from ops op k n) ≡ n
 codes_length ops op k zero = refl
 codes_length ops op k (suc n) = ap suc (codes_length ops op (k + 1) n)
 
@@ -283,12 +272,12 @@ opened code ops types start rfs opcode scale at =
     ∙ parts_got code types scale rfs start opcode (operand_types ops opcode) false at []
 
 -- the code's steps are V8's and 01's decoding
-pub decoded : (code : List ℕ) (ops : Opcodes) (types : List ℕ) (start : ℕ) (rfs : ℤ) (wide extra : ℕ)
-    → steps_at code ops types start rfs wide extra ≡ decode_at code ops types start rfs wide extra
+pub decoded : (code : List ℕ) (ops : Opcodes) (types : List ℕ) (start : ℕ) (rfs : ℤ) (prefixes : Prefixes)
+    → steps_at code ops types start rfs prefixes ≡ decode_at code ops types start rfs prefixes
 unfolding decode_at
-decoded code ops types start rfs wide extra = go (head_at code ops.many start wide extra)
+decoded code ops types start rfs prefixes = go (head_at code ops.many start prefixes)
   where
-    go : (h : Head) → of_head h code ops types start rfs ≡ decode_head h code ops types start rfs
-    go Head.End = refl
-    go (Head.Refused r) = refl
-    go (Head.Op opcode scale at) = opened code ops types start rfs opcode scale at
+    go : (h : Begins) → of_head h code ops types start rfs ≡ decode_head h code ops types start rfs
+    go (Ok (Some h)) = opened code ops types start rfs h.opcode h.scale h.at
+    go (Ok None) = refl
+    go (Err r) = refl

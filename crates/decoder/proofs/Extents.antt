@@ -15,9 +15,8 @@ use Rattle.tables.specs.Records.{width}
 use Rattle.operand.specs.Operand.{is_list}
 use Rattle.operand.specs.mirror.Step.{is_counted}
 use Rattle.flow.specs.Opcodes.{Opcodes}
-use Rattle.decoder.specs.declared.Decoded.{Decoded}
-use Rattle.decoder.specs.declared.Outcome.{Outcome}
-use Rattle.decoder.specs.Decode.{codes_from, Part, own, count, parts_from, part_width, offset_of, is_short, read_parts}
+use Rattle.std.specs.Prelude.{Some, Ok}
+use Rattle.decoder.specs.Decode.{Decoded, codes_from, Part, own, count, parts_from, part_width, offset_of, is_short, read_parts}
 use Rattle.decoder.proofs.Laws.{not_list}
 use Rattle.decoder.specs.mirror.Extent.{size_of, size_from, extent_of}
 
@@ -38,7 +37,7 @@ module _ (types : List ℕ) (scale : ℕ) (ops : Opcodes) (op n k before : ℕ) 
 
 -- ---- the sizes of the types are those of the parts
 module _ (types : List ℕ) (scale : ℕ) where
-  abbrev total : List Part → ℕ
+  abbrev pub total : List Part → ℕ
   total ps = offset_of (map (part_width types scale) ps) (length ps)
 
   pub size_parts : (before : ℕ) (ts : List ℕ) → size_from types scale before ts ≡ total (parts_from (is_list before) ts)
@@ -65,19 +64,20 @@ module _ (code types : List ℕ) (scale opcode start at : ℕ) where
   rises [] (suc k) h = omega arith
   rises (p ∷ ps) (suc k) h = omega (arith, rises ps k (omega arith))
 
-  none_short : (ps : List Part) → at + total types scale ps ≤ length code → first_from (is_short code (map (part_width types scale) ps) at) 0 (length ps) ≡ length ps
+  -- a code that holds all the bytes holds every part
+  pub none_short : (ps : List Part) → at + total types scale ps ≤ length code → first_from (is_short code (map (part_width types scale) ps) at) 0 (length ps) ≡ length ps
   none_short ps h =
       first_is (is_short code (map (part_width types scale) ps) at) 0 (length ps) (length ps) (omega arith) (omega arith)
       (λ j a b. le-ltb (length code) (at + offset_of (map (part_width types scale) ps) (suc j)) (omega (arith, h, rises ps (suc j) (omega arith))))
       (λ l. absurd (omega arith))
 
   fits_done : (rfs : ℤ) (ps : List Part) → at + total types scale ps ≤ length code
-      → record { outcome = Outcome.Done; opcode = opcode; scale = scale; end = at + total types scale ps } ≡ extent_of (read_parts code types scale opcode rfs start at ps)
+      → Ok (Some (record { opcode = opcode; scale = scale; end = at + total types scale ps })) ≡ extent_of (read_parts code types scale opcode rfs start at ps)
   unfolding read_parts
   fits_done rfs ps h = rw (none_short ps h, le-ltb (length ps) (length ps) (omega arith))
 
   pub extent_done : (rfs : ℤ) (ts : List ℕ) (size : ℕ) → size ≡ size_from types scale 0 ts → at + size ≤ length code
-      → record { outcome = Outcome.Done; opcode = opcode; scale = scale; end = at + size } ≡ extent_of (read_parts code types scale opcode rfs start at (parts_from false ts))
+      → Ok (Some (record { opcode = opcode; scale = scale; end = at + size })) ≡ extent_of (read_parts code types scale opcode rfs start at (parts_from false ts))
   unfolding is_list
   extent_done rfs ts size e h = let f = e ∙ size_parts types scale 0 ts in rw f (fits_done rfs (parts_from false ts) (omega (arith, h, f)))
 

@@ -9,7 +9,7 @@ use Rattle.laws.specs.Scan.{first_from}
 use Rattle.tables.specs.Records.{first_marked, type_code}
 use Rattle.flow.specs.Opcodes.{opcodes_of}
 use Rattle.operand.specs.declared.Operand.TheVariants.{RegList, Imm, RuntimeId}
-use Rattle.decoder.specs.declared.Outcome.{Outcome}
+use Rattle.std.specs.Prelude.{Some, Ok}
 use Rattle.decoder.specs.Decode.{instr_of}
 use Rattle.decoder.specs.V8.{Bytecodes, type_info, is_scalable, is_unsigned, unscaled_size}
 use Rattle.decoder.specs.V8.OperandType.{k_runtime_id, k_reg_count, k_imm, k_reg_list}
@@ -57,7 +57,7 @@ v8_reads : map (λ code. v8_decoded v8 code (negsuc 5) 0) (
     (0x02 ∷ 0xff ∷ []) ∷ (0x00 ∷ 0x02 ∷ 0x80 ∷ 0x01 ∷ []) ∷ (0x01 ∷ 0x02 ∷ 0x00 ∷ 0x00 ∷ 0x00 ∷ 0x80 ∷ [])
     ∷ (0x00 ∷ 0x03 ∷ 0x05 ∷ 0x00 ∷ 0xfa ∷ 0xff ∷ 0x02 ∷ 0x00 ∷ []) ∷ []
     )
-    ≡ map (λ i. record { outcome = Outcome.Done; instr = i }) (
+    ≡ map (λ i. Ok (Some i)) (
     instr_of 0 2 1 2 (Imm (negsuc 0) ∷ []) ∷ instr_of 0 2 2 4 (Imm (pos 384) ∷ []) ∷ instr_of 0 2 4 6 (Imm (negsuc 2147483647) ∷ [])
     ∷ instr_of 0 3 2 8 (RuntimeId 5 ∷ RegList (pos 0) 2 ∷ []) ∷ []
     )

@@ -1,13 +1,11 @@
 -- Which of our tables are V8's at an instruction, and what V8 reads there (V8.antt) as an instruction of ours. `v8_decoding` of
 -- proofs/V8.antt says that for such a table it is what we decode.
-use Rattle.std.specs.Prelude.{ℕ, suc, ◌+◌, ◌<◌, ◌≤◌, ◌≡◌, List, [], ◌∷◌, Bool, true, false, cond, not, ◌&&◌, ◌||◌, eqb, length, ℤ, nat_abs}
+use Rattle.std.specs.Prelude.{ℕ, suc, ◌+◌, ◌<◌, ◌≤◌, ◌≡◌, List, [], ◌∷◌, Bool, true, false, cond, not, ◌&&◌, ◌||◌, eqb, length, ℤ, nat_abs, Some, Ok}
 use Rattle.tables.specs.Records.{type_byte}
 use Rattle.flow.specs.Opcodes.{Opcodes, prefix_with}
 use Rattle.operand.specs.declared.Operand.{Operand}
 use Rattle.operand.specs.declared.Operand.TheVariants.{Reg, RegList, Imm, Idx, Flag8, Flag16, RuntimeId, IntrinsicId}
-use Rattle.decoder.specs.declared.Outcome.{Outcome}
-use Rattle.decoder.specs.declared.Decoded.{Decoded}
-use Rattle.decoder.specs.Decode.{instr_of}
+use Rattle.decoder.specs.Decode.{Decoded, instr_of}
 use Rattle.decoder.specs.V8.{OperandType, Bytecodes, type_info, is_scalable, unscaled_size, from_operand, operand_scale, current_bytecode, current_types, next_offset, get_operand}
 use Rattle.decoder.specs.V8.OperandType.{k_flag8, k_flag16, k_intrinsic_id, k_runtime_id, k_native_context_index, k_idx, k_u_imm, k_reg_count, k_imm, k_reg, k_reg_list, k_reg_pair, k_reg_out, k_reg_out_list, k_reg_out_pair, k_reg_out_triple, k_reg_in_out}
 
@@ -54,8 +52,8 @@ counted false (t ∷ ts) = counted (is_register_list t) ts
 
 -- the table of an instruction that begins with the byte first and has opcode op is V8's, and no debugger has broken into it
 pub record V8Form (b : Bytecodes) (ops : Opcodes) (types : List ℕ) (first op : ℕ) : Type 0 where
-  pub wide : prefix_with ops 1 ≡ b.k_wide
-  pub extra : prefix_with ops 2 ≡ b.k_extra_wide
+  pub wide : prefix_with ops 1 ≡ Some b.k_wide
+  pub extra : prefix_with ops 2 ≡ Some b.k_extra_wide
   pub unbroken : (eqb first b.k_debug_break_wide || eqb first b.k_debug_break_extra_wide) ≡ false
   pub known : op < ops.many
   pub number : ops.operands op ≡ length (b.operand_types op)
@@ -92,8 +90,6 @@ shown_from z start false i (t ∷ ts) = shown_operand z start i t ∷ shown_from
 
 -- V8's reading of the instruction at an offset
 abbrev pub v8_decoded : Bytecodes → List ℕ → ℤ → ℕ → Decoded
-v8_decoded b code start offset = record {
-  outcome = Outcome.Done;
-  instr = instr_of offset (current_bytecode b code offset) (operand_scale b code offset) (next_offset b code offset)
-      (shown_from (get_operand b code offset) start false 0 (current_types b code offset));
-}
+v8_decoded b code start offset =
+    Ok (Some (instr_of offset (current_bytecode b code offset) (operand_scale b code offset) (next_offset b code offset)
+    (shown_from (get_operand b code offset) start false 0 (current_types b code offset))))

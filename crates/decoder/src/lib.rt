@@ -1,27 +1,25 @@
 // One instruction at a place of the code.
 #![tactic(auto)]
 
-ghost use Rattle.std.specs.Prelude.{◌≡◌, ◌<◌, ◌≤◌, ℤ, length};
+ghost use Rattle.std.specs.Prelude.{◌≡◌, ◌<◌, ◌≤◌, ℤ, length, Some, Ok};
 ghost use Rattle.flow.specs.Opcodes.{opcodes_of};
-ghost use Rattle.prefix.specs.declared.Head.TheVariants as head;
-ghost use Rattle.decoder.specs.Decode.{blank, operand_types, decode_head, decode_at};
+ghost use Rattle.decoder.specs.Decode.{operand_types, decode_head, decode_at};
 ghost use Rattle.decoder.specs.mirror.Extent.{size_of, size_from, extent_of};
 
 use operand::{Operand, Step};
 use prefix::Head;
 use refusal::Refusal;
+use tables::Prefixes;
 
-// One of an instruction's eight operands.
+// One of an instruction's eight places: an operand, or none where it is not used.
 #[derive(Clone, Copy)]
 pub struct OperandRecord {
-    pub operand: Operand,
+    pub operand: Option<Operand>,
 }
 
-const NOTHING: OperandRecord = OperandRecord {
-    operand: Operand::Nothing,
-};
+const UNUSED: OperandRecord = OperandRecord { operand: None };
 
-// An instruction: its operands are the first count of the eight.
+// An instruction: its operands are the first count of the eight places. No heap, so room for the most that there are; C is told the count.
 #[derive(Clone, Copy)]
 pub struct Instr {
     pub offset: usize,
@@ -32,31 +30,15 @@ pub struct Instr {
     pub operands: [OperandRecord; 8],
 }
 
-// How decoding at a place ended.
-#[derive(Clone, Copy)]
-pub enum Outcome {
-    End,
-    Refused(Refusal),
-    Done,
-}
-
-// The answer; the instruction is blank unless the outcome is Done.
-#[derive(Clone, Copy)]
-pub struct Decoded {
-    pub outcome: Outcome,
-    pub instr: Instr,
-}
-
-// An instruction without its operands: what a pass needs that only goes from one to the next. All 0 unless the outcome is Done.
+// An instruction without its operands: what a pass needs that only goes from one to the next.
 #[derive(Clone, Copy)]
 pub struct Extent {
-    pub outcome: Outcome,
     pub opcode: u8,
     pub scale: u8,
     pub end: usize,
 }
 
-// The instruction at a place; wide and extra are the prefix opcodes. It checks nothing: a byte past the end of a table is 0.
+// The instruction at a place, none at the code's end. It checks nothing: a byte past the end of a table is 0.
 #[tactic(auto, unfolding(crate::specs::Decode::decode_at))]
 pub fn decode_at(
     code: &[u8],
@@ -64,24 +46,13 @@ pub fn decode_at(
     types: &[u8],
     start: usize,
     reg_file_start: i32,
-    wide: usize,
-    extra: usize,
-) -> Decoded
-    ensures { result ≡ decode_at code.now (opcodes_of opcodes.now) types.now start reg_file_start wide extra }
+    prefixes: Prefixes,
+) -> Result<Option<Instr>, Refusal>
+    ensures { result ≡ decode_at code.now (opcodes_of opcodes.now) types.now start reg_file_start prefixes }
 {
-    match prefix::head_at(code, tables::opcode_count(opcodes), start, wide, extra) {
-        Head::End => no_instr(Outcome::End, start % 8),
-        Head::Refused(refusal) => no_instr(Outcome::Refused(refusal), start % 8),
-        Head::Op { opcode, scale, at } => decode_op(
-            code,
-            opcodes,
-            types,
-            start,
-            opcode,
-            scale,
-            reg_file_start,
-            at,
-        ),
+    match prefix::head_at(code, tables::opcode_count(opcodes), start, prefixes)? {
+        Some(head) => decode_op(code, opcodes, types, start, head, reg_file_start),
+        None => Ok(None),
     }
 }
 
@@ -92,146 +63,86 @@ pub fn extent_at(
     opcodes: &[u8],
     types: &[u8],
     start: usize,
-    wide: usize,
-    extra: usize,
-) -> Extent
+    prefixes: Prefixes,
+) -> Result<Option<Extent>, Refusal>
     ensures { (rfs : ℤ) → result ≡ extent_of (decode_at code.now (opcodes_of opcodes.now) types.now
-        start rfs wide extra) }
+        start rfs prefixes) }
 {
     let ops = tables::opcode_count(opcodes);
-    match prefix::head_at(code, ops, start, wide, extra) {
-        Head::End => no_extent(Outcome::End),
-        Head::Refused(refusal) => no_extent(Outcome::Refused(refusal)),
-        Head::Op { opcode, scale, at } => {
-            extent_op(code, opcodes, types, start, opcode, scale, at)
-        }
+    match prefix::head_at(code, ops, start, prefixes)? {
+        Some(head) => extent_op(code, opcodes, types, start, head),
+        None => Ok(None),
     }
 }
 
-// No instruction.
-pub fn blank_instr() -> Instr
-    ensures { result ≡ blank }
-{
-    Instr {
-        offset: 0,
-        opcode: 0,
-        scale: 0,
-        end: 0,
-        count: 0,
-        operands: [NOTHING; 8],
-    }
-}
-
-// The instruction with this opcode at a place: its operands begin at place at.
+// The instruction with this opcode at a place.
 fn decode_op(
     code: &[u8],
     opcodes: &[u8],
     types: &[u8],
     start: usize,
-    opcode: u8,
-    scale: u8,
+    head: Head,
     reg_file_start: i32,
-    at: usize,
-) -> Decoded
-    ensures { result ≡ decode_head (head.Op opcode scale at)
-        code.now (opcodes_of opcodes.now) types.now start reg_file_start }
+) -> Result<Option<Instr>, Refusal>
+    ensures { result ≡ decode_head (Ok (Some head)) code.now (opcodes_of opcodes.now) types.now start reg_file_start }
 {
-    let n = tables::operand_count(opcodes, opcode).min(8);
-    let mut slots = [NOTHING; 8];
-    let mut p = at;
+    let n = tables::operand_count(opcodes, head.opcode).min(8);
+    let mut slots = [UNUSED; 8];
+    let mut p = head.at;
     let mut count: usize = 0;
     let mut before: u8 = 0;
     for k in 0..n {
-        let t = tables::type_code(opcodes, opcode, k);
-        match operand::operand_at(code, types, t, before, scale, p, reg_file_start) {
-            Step::Skip => {}
-            Step::Short(refusal) => return no_instr(Outcome::Refused(refusal), count),
-            Step::Read { operand, next } => {
-                slots[count] = OperandRecord { operand };
-                count += 1;
-                p = next;
-            }
+        let t = tables::type_code(opcodes, head.opcode, k);
+        let read = operand::operand_at(code, types, t, before, head.scale, p, reg_file_start)?;
+        if let Some(Step { operand, next }) = read {
+            slots[count] = OperandRecord {
+                operand: Some(operand),
+            };
+            count += 1;
+            p = next;
         }
         before = t;
     }
-    Decoded {
-        outcome: Outcome::Done,
-        instr: Instr {
-            offset: start,
-            opcode,
-            scale,
-            end: p,
-            count,
-            operands: slots,
-        },
-    }
+    Ok(Some(Instr {
+        offset: start,
+        opcode: head.opcode,
+        scale: head.scale,
+        end: p,
+        count,
+        operands: slots,
+    }))
 }
 
-// An outcome with no instruction. The store at a place known only at run time keeps the array whole in memory, so that it is copied at once,
-// not field by field.
-#[tactic(auto, using(crate::proofs::Laws::set_replicate))]
-fn no_instr(outcome: Outcome, k: usize) -> Decoded
-    requires { k < 8 }
-    ensures { result ≡ record { outcome = outcome; instr = blank } }
-{
-    let mut slots = [NOTHING; 8];
-    slots[k] = NOTHING;
-    Decoded {
-        outcome,
-        instr: Instr {
-            offset: 0,
-            opcode: 0,
-            scale: 0,
-            end: 0,
-            count: 0,
-            operands: slots,
-        },
-    }
-}
-
-fn no_extent(outcome: Outcome) -> Extent
-    ensures { result ≡ extent_of (record { outcome = outcome; instr = blank }) }
-{
-    Extent {
-        outcome,
-        opcode: 0,
-        scale: 0,
-        end: 0,
-    }
-}
-
-// The extent of the instruction with this opcode, whose operands begin at place at.
+// The extent of the instruction with this opcode.
+#[tactic(auto, using(crate::proofs::Extents::extent_done))]
 fn extent_op(
     code: &[u8],
     opcodes: &[u8],
     types: &[u8],
     start: usize,
-    opcode: u8,
-    scale: u8,
-    at: usize,
-) -> Extent
-    ensures { (rfs : ℤ) → result ≡ extent_of (decode_head (head.Op opcode scale at)
+    head: Head,
+) -> Result<Option<Extent>, Refusal>
+    ensures { (rfs : ℤ) → result ≡ extent_of (decode_head (Ok (Some head))
         code.now (opcodes_of opcodes.now) types.now start rfs) }
 {
-    let size = operands_size(opcodes, types, opcode, scale);
-    if operand::within_len(code.len(), at, size) {
-        return Extent {
-            outcome: Outcome::Done,
-            opcode,
-            scale,
-            end: at + size,
-        };
+    let size = operands_size(opcodes, types, head.opcode, head.scale);
+    if operand::within_len(code.len(), head.at, size) {
+        return Ok(Some(Extent {
+            opcode: head.opcode,
+            scale: head.scale,
+            end: head.at + size,
+        }));
     }
-    let d = decode_op(code, opcodes, types, start, opcode, scale, 0, at);
-    Extent {
-        outcome: d.outcome,
-        opcode: d.instr.opcode,
-        scale: d.instr.scale,
-        end: d.instr.end,
-    }
+    let decoded = decode_op(code, opcodes, types, start, head, 0)?;
+    Ok(decoded.map(|i| Extent {
+        opcode: i.opcode,
+        scale: i.scale,
+        end: i.end,
+    }))
 }
 
 // How many bytes the operands of an opcode take at a scale.
+#[tactic(auto, using(crate::proofs::Extents::size_end))]
 fn operands_size(opcodes: &[u8], types: &[u8], opcode: u8, scale: u8) -> usize
     ensures { result ≡ size_from types.now scale 0 (operand_types (opcodes_of opcodes.now) opcode) }
 {

@@ -11,10 +11,10 @@ use Rattle.laws.specs.Scan.{first_from}
 use Rattle.laws.proofs.Tests.{by_test}
 use Rattle.flow.specs.Opcodes.{Opcodes}
 use Rattle.operand.specs.Operand.{is_list}
-use Rattle.prefix.specs.declared.Head.{Head}
-use Rattle.prefix.specs.Head.{head_at}
-use Rattle.decoder.specs.declared.Decoded.{Decoded}
-use Rattle.decoder.specs.Decode.{codes_from, Part, own, count, parts_from, part_width, operands_from, is_short, read_parts, decode_head, decode_at}
+use Rattle.std.specs.Prelude.{Some, None, Ok, Err}
+use Rattle.tables.specs.declared.Prefixes.{Prefixes}
+use Rattle.prefix.specs.Head.{Begins, head_at}
+use Rattle.decoder.specs.Decode.{Decoded, instr_in, codes_from, Part, own, count, parts_from, part_width, operands_from, is_short, read_parts, decode_head, decode_at}
 
 -- how many parts are operands
 owns : List Part → ℕ
@@ -38,9 +38,9 @@ owns_few ops op k (suc n) after =
     by_test (λ (ps : List Part). owns ps ≤ suc n) (eqb t 8 && after) (λ _. omega (arith, no))
     (λ _. by_test (λ (ps : List Part). owns (own t ∷ ps) ≤ suc n) (is_list t) (λ _. omega (arith, yes)) (λ _. omega (arith, no)))
 
-module _ (code : List ℕ) (ops : Opcodes) (types : List ℕ) (start : ℕ) (rfs : ℤ) (wide extra : ℕ) where
+module _ (code : List ℕ) (ops : Opcodes) (types : List ℕ) (start : ℕ) (rfs : ℤ) (prefixes : Prefixes) where
   abbrev Counted : Decoded → Type 0
-  Counted d = d.instr.count ≤ min (ops.operands d.instr.opcode) 8
+  Counted d = (instr_in d).count ≤ min (ops.operands (instr_in d).opcode) 8
 
   parts_counted : (scale opcode at : ℕ) (ps : List Part) → owns ps ≤ min (ops.operands opcode) 8 → Counted (read_parts code types scale opcode rfs start at ps)
   unfolding read_parts
@@ -48,11 +48,11 @@ module _ (code : List ℕ) (ops : Opcodes) (types : List ℕ) (start : ℕ) (rfs
       let ws = map (part_width types scale) ps in
       by_test Counted (ltb (first_from (is_short code ws at) 0 (length ps)) (length ps)) (λ _. omega arith) (λ _. omega (arith, owns_all code ws at rfs 0 ps))
 
-  pub counted : Counted (decode_at code ops types start rfs wide extra)
+  pub counted : Counted (decode_at code ops types start rfs prefixes)
   unfolding decode_at
-  counted = go (head_at code ops.many start wide extra)
+  counted = go (head_at code ops.many start prefixes)
     where
-      go : (h : Head) → Counted (decode_head h code ops types start rfs)
-      go Head.End = omega arith
-      go (Head.Refused r) = omega arith
-      go (Head.Op opcode scale at) = parts_counted scale opcode at _ (owns_few ops opcode 0 (min (ops.operands opcode) 8) false)
+      go : (h : Begins) → Counted (decode_head h code ops types start rfs)
+      go (Ok (Some h)) = parts_counted h.scale h.opcode h.at _ (owns_few ops h.opcode 0 (min (ops.operands h.opcode) 8) false)
+      go (Ok None) = omega arith
+      go (Err r) = omega arith

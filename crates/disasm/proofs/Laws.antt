@@ -1,12 +1,17 @@
 -- Laws of the listing: what a pass says of the answer, and how long its text can be. Assumes nothing.
 use Prim.Native.Nat.{ℕ, ◌<◌, ◌≤◌, ◌^◌}
 use mathlib.Core.Path.{◌≡◌, refl, sym, ap, ◌∙◌}
-use mathlib.Core.Bool.{Bool, false}
+use mathlib.Core.Bool.{Bool, true, false, cond}
 use mathlib.Core.List.{List, [], ◌∷◌}
 use native.Mathlib.Omega.{arith}
 use lib.ListN.{length, length-append}
 use Rattle.refusal.specs.declared.Refusal.{Refusal}
-use Rattle.std.specs.Prelude.{None, Result, Ok, Err}
+use Rattle.std.specs.Prelude.{Option, None, Result, Ok, Err}
+use lib.IntN.{ℤ}
+use borrow.Author.Tests.{le-ltb}
+use Rattle.decoder.specs.Decode.{blank}
+use Rattle.flow.specs.declared.Kind.{Kind}
+use Rattle.flow.specs.declared.Kind.TheVariants.{On, Ends, Jumps, Branches, JumpsBack, Switch}
 use Rattle.refusal.proofs.Laws.{or_left}
 use Rattle.text.specs.Put.{Put}
 use Rattle.text.specs.Written.{put_text}
@@ -18,10 +23,9 @@ use Rattle.decoder.specs.declared.Instr.{Instr}
 use Rattle.decoder.specs.Listed.{Listing}
 use Rattle.flow.specs.Opcodes.{Opcodes}
 use Rattle.flow.specs.declared.Flow.{Flow}
-use Rattle.targets.specs.Targets.{is_switch, jump_table}
+use Rattle.targets.specs.Targets.{operand_of, index_of, is_switch, table_by, jump_table}
 use Rattle.lines.specs.Line.{View}
 use Rattle.lines.proofs.Room.{NamesFit, signed_room, line_room_lem}
-use Rattle.function.specs.Code.{code_check}
 use Rattle.disasm.specs.Listing.{header_text, lines_text, listing_text, list_view}
 use Rattle.disasm.specs.mirror.Lines.{header_room, lines_room, passed, Checked}
 
@@ -45,9 +49,27 @@ pub no_table : (pooled : Bool) (flow : Flow) (i : Instr) → is_switch flow.kind
 unfolding jump_table
 no_table pooled flow i e = rw e
 
+pub not_switch : (k : Kind) → (k ≡ Switch → ⊥) → is_switch k ≡ false
+not_switch On h = refl
+not_switch Ends h = refl
+not_switch Jumps h = refl
+not_switch Branches h = refl
+not_switch JumpsBack h = refl
+not_switch Switch h = absurd (h refl)
+
+-- nor where no instruction was decoded
+pub no_instr : (pooled : Bool) (flow : Flow) → Ok None ≡ jump_table pooled flow blank
+unfolding jump_table operand_of index_of table_by
+no_instr pooled flow = rw (le-ltb flow.first 0 (omega arith)) (go (is_switch flow.kind) pooled _ _)
+  where
+    go : (s b : Bool) (size base : Option ℤ) → Ok None ≡ cond s (table_by b None size base) (Ok None)
+    go true true size base = refl
+    go true false size base = refl
+    go false b size base = refl
+
 -- where it found nothing, decoding came to the code's end
-pub check_fine : {ops : Opcodes} {pooled : Bool} (l : Listing) {m : Result ℕ Refusal} {n : ℕ} → Checked ops pooled l m → m ≡ Ok n → code_check l.outcome ≡ Ok tt
-check_fine l c ok = or_left (code_check l.outcome) _ (sym c.checked ∙ ap passed ok)
+pub check_fine : {ops : Opcodes} {pooled : Bool} (l : Listing) {m : Result ℕ Refusal} {n : ℕ} → Checked ops pooled l m → m ≡ Ok n → l.check ≡ Ok tt
+check_fine l c ok = or_left l.check _ (sym c.checked ∙ ap passed ok)
 
 module _ (v : View) (h : Header) (l : Listing) (o : List ℕ) {m : Result ℕ Refusal} (c : Checked v.opcodes v.pooled l m) where
   pub check_refused : (r : Refusal) → m ≡ Err r → WrittenBy (list_view v h l o) (Err r) o

@@ -1,7 +1,7 @@
 // The listing of a function: its header counts and its instruction lines.
 #![tactic(auto)]
 
-ghost use Rattle.std.specs.Prelude.{◌≡◌};
+ghost use Rattle.std.specs.Prelude.{◌≡◌, Ok};
 ghost use Rattle.text.specs.Put.{Put};
 ghost use Rattle.text.specs.Written.{put_text};
 ghost use Rattle.text.specs.Numbers.{WrittenAs};
@@ -10,14 +10,13 @@ ghost use Rattle.targets.specs.mirror.Search.{PoolBlocked};
 ghost use Rattle.flow.specs.Opcodes.{opcodes_of};
 ghost use Rattle.targets.specs.Targets.{found, jump_table};
 ghost use Rattle.function.specs.Files.{files_of};
-ghost use Rattle.function.specs.Code.{code_check};
+ghost use Rattle.decoder.specs.Decode.{instr_in};
 ghost use Rattle.function.specs.mirror.Function.{decoded_by, listed_by};
 ghost use Rattle.lines.specs.mirror.View.{view_of};
 ghost use Rattle.disasm.specs.Listing.{header_text, lines_text, listing_text, list_view, list_call};
 ghost use Rattle.disasm.specs.mirror.Lines.{header_room, Checked};
 ghost use Rattle.disasm.specs.mirror.Listing.{code_of, list_with, list_searched};
 
-use decoder::Outcome;
 use flow::{Flow, Kind};
 use function::Function;
 use header::Header;
@@ -154,7 +153,7 @@ fn list_measured(
     f: Function,
     h: Header,
 ) -> Result<usize, Refusal>
-    requires { code_check (listed_by (code_of payload.now h) opcodes.now types.now f).outcome ≡ Ok tt }
+    requires { (listed_by (code_of payload.now h) opcodes.now types.now f).check ≡ Ok tt }
     ensures { WrittenBy (put_text (listing_text
         (view_of (code_of payload.now h) opcodes.now types.now runtime.now intrinsic.now
         slots.now payload.now f) h
@@ -195,7 +194,7 @@ fn put_all(
     f: Function,
     h: Header,
 ) -> usize
-    requires { code_check (listed_by (code_of payload.now h) opcodes.now types.now f).outcome ≡ Ok tt }
+    requires { (listed_by (code_of payload.now h) opcodes.now types.now f).check ≡ Ok tt }
     ensures { Put out.old 0 (listing_text
         (view_of (code_of payload.now h) opcodes.now types.now runtime.now intrinsic.now
         slots.now payload.now f) h
@@ -248,7 +247,7 @@ fn put_lines(
     payload: &[u8],
     f: Function,
 ) -> usize
-    requires { code_check (listed_by code.now opcodes.now types.now f).outcome ≡ Ok tt }
+    requires { (listed_by code.now opcodes.now types.now f).check ≡ Ok tt }
     ensures { Put out.old 0 (lines_text
         (view_of code.now opcodes.now types.now runtime.now intrinsic.now
         slots.now payload.now f)
@@ -274,7 +273,7 @@ fn put_each(
     blocks: &[u32],
     f: Function,
 ) -> usize
-    requires { (code_check (listed_by code.now opcodes.now types.now f).outcome ≡ Ok tt)
+    requires { ((listed_by code.now opcodes.now types.now f).check ≡ Ok tt)
         × PoolBlocked slots.now f.ts f.pool blocks.now }
     ensures { Put out.old 0 (lines_text
         (view_of code.now opcodes.now types.now runtime.now intrinsic.now
@@ -287,32 +286,25 @@ fn put_each(
     let mut i: usize = 0;
     // A step is as long as the instruction: a range or an iterator would be no plainer.
     while i < code.len() {
-        let d = decoder::decode_at(code, opcodes, types, i, rfs, f.wide, f.extra);
-        let outcome = d.outcome;
-        let instr = d.instr;
-        match outcome {
-            Outcome::Refused(_) => return p,
-            Outcome::End => return p,
-            Outcome::Done => {
-                let end = instr.end;
-                let flow = flow::flow_of(opcodes, instr.opcode);
-                let q = p.min(out.len());
-                let w = lines::put_instr(
-                    &mut out[q..],
-                    &code[i..end],
-                    opcodes,
-                    types,
-                    runtime,
-                    intrinsic,
-                    f,
-                    instr,
-                );
-                let at = text::saturating_add(p, w);
-                let again = d.instr;
-                p = lines::put_goes(out, at, slots, payload, blocks, f, flow, again);
-                i = end;
-            }
-        }
+        let Ok(Some(instr)) = decoder::decode_at(code, opcodes, types, i, rfs, f.prefixes) else {
+            return p;
+        };
+        let end = instr.end;
+        let flow = flow::flow_of(opcodes, instr.opcode);
+        let q = p.min(out.len());
+        let w = lines::put_instr(
+            &mut out[q..],
+            &code[i..end],
+            opcodes,
+            types,
+            runtime,
+            intrinsic,
+            f,
+            instr,
+        );
+        let at = text::saturating_add(p, w);
+        p = lines::put_goes(out, at, slots, payload, blocks, f, flow, instr);
+        i = end;
     }
     p
 }
@@ -327,23 +319,17 @@ fn check_lines(code: &[u8], opcodes: &[u8], types: &[u8], f: Function) -> Result
     let mut i: usize = 0;
     // A step is as long as the instruction: a range or an iterator would be no plainer.
     while i < code.len() {
-        let x = decoder::extent_at(code, opcodes, types, i, f.wide, f.extra);
-        let outcome = x.outcome;
-        match outcome {
-            Outcome::Refused(refusal) => return Err(refusal),
-            Outcome::End => return check.and(Ok(p)),
-            Outcome::Done => {
-                let end = x.end;
-                let size = end - i;
-                let flow = flow::flow_of(opcodes, x.opcode);
-                let table = table_at(code, opcodes, types, f, flow, i);
-                let count = tables::operand_count(opcodes, x.opcode);
-                let room = lines::line_room(flow, count, size as u8, table);
-                check = check.and(function::table_check(table, i));
-                p = text::saturating_add(p, room);
-                i = end;
-            }
-        }
+        let Some(x) = decoder::extent_at(code, opcodes, types, i, f.prefixes)? else {
+            return check.and(Ok(p));
+        };
+        let size = x.end - i;
+        let flow = flow::flow_of(opcodes, x.opcode);
+        let table = table_at(code, opcodes, types, f, flow, i);
+        let count = tables::operand_count(opcodes, x.opcode);
+        let room = lines::line_room(flow, count, size as u8, table);
+        check = check.and(function::table_check(table, i));
+        p = text::saturating_add(p, room);
+        i = x.end;
     }
     check.and(Ok(p))
 }
@@ -358,22 +344,14 @@ fn table_at(
     at: usize,
 ) -> Result<Option<Entries>, BadSwitch>
     ensures { result ≡ jump_table (found f.pool) flow
-        (decoded_by code.now opcodes.now types.now f at).instr }
+        (instr_in (decoded_by code.now opcodes.now types.now f at)) }
 {
-    let kind = flow.kind;
-    match kind {
-        Kind::On => Ok(None),
-        Kind::Ends => Ok(None),
-        Kind::Jumps => Ok(None),
-        Kind::Branches => Ok(None),
-        Kind::JumpsBack => Ok(None),
-        Kind::Switch => {
-            let frame = f.frame;
-            let rfs = frame.reg_file_start;
-            let d = decoder::decode_at(code, opcodes, types, at, rfs, f.wide, f.extra);
-            let pool = f.pool;
-            let instr = d.instr;
-            targets::jump_table_unchecked(pool, flow, instr)
-        }
+    if !matches!(flow.kind, Kind::Switch) {
+        return Ok(None);
+    }
+    let rfs = f.frame.reg_file_start;
+    match decoder::decode_at(code, opcodes, types, at, rfs, f.prefixes) {
+        Ok(Some(instr)) => targets::jump_table_unchecked(f.pool, flow, instr),
+        _ => Ok(None),
     }
 }

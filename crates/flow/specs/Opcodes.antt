@@ -1,7 +1,8 @@
 -- What is read of an opcode file, as functions. Above crate tables believed definitions see opcodes by these alone: only `opcodes_of` knows how
 -- their records lie.
-use Rattle.std.specs.Prelude.{ℕ, List, Bool}
+use Rattle.std.specs.Prelude.{ℕ, List, Bool, Option}
 use Rattle.tables.specs.Records.{opcode_count, prefix_mark, operand_count, type_code, first_marked}
+use Rattle.tables.specs.declared.Prefixes.{Prefixes}
 use Rattle.tables.specs.Texts.{op_name}
 use Rattle.flow.specs.declared.Flow.{Flow}
 use Rattle.flow.specs.Flow.{flow_of, is_return}
@@ -34,5 +35,9 @@ opcodes_of s = record {
 }
 
 -- the prefix opcode of a mark; of `opcodes_of s` it is tables' `prefix_op s`
-abbrev pub prefix_with : Opcodes → ℕ → ℕ
+abbrev pub prefix_with : Opcodes → ℕ → Option ℕ
 prefix_with o mark = first_marked o.many o.mark mark
+
+-- the two prefix opcodes; of `opcodes_of s` it is tables' `prefixes_of s`
+abbrev pub prefixes_with : Opcodes → Prefixes
+prefixes_with o = record { wide = prefix_with o 1; extra_wide = prefix_with o 2 }

@@ -20,6 +20,24 @@ pub enum Kind {
     Switch,
 }
 
+// The kind of a flow byte; behind the six it is straight on.
+impl From<u8> for Kind {
+    ghost from_gives = { λ b kind. kind ≡ flow_kind b };
+
+    #[tactic(auto, using(crate::proofs::Laws::kind_past), unfolding(crate::specs::Flow::flow_kind))]
+    fn from(b: u8) -> Kind {
+        match b {
+            0 => Kind::On,
+            1 => Kind::Ends,
+            2 => Kind::Jumps,
+            3 => Kind::Branches,
+            4 => Kind::JumpsBack,
+            5 => Kind::Switch,
+            _ => Kind::On,
+        }
+    }
+}
+
 #[derive(Clone, Copy)]
 pub struct Flow {
     pub kind: Kind,
@@ -32,43 +50,25 @@ pub struct Flow {
 }
 
 // The flow of an opcode, as its record says.
+#[tactic(auto, unfolding(crate::specs::Flow::flow_of))]
 pub fn flow_of(opcodes: &[u8], op: u8) -> Flow
     ensures { result ≡ flow_of opcodes.now op }
 {
     let at = tables::opcode_start(op);
-    let kind = kind_of(words::byte_at(opcodes, at + 50));
-    let pool = words::byte_at(opcodes, at + 51) == 1;
-    let first = words::byte_at(opcodes, at + 52);
-    let base = words::byte_at(opcodes, at + 53) == 1;
     Flow {
-        kind,
-        pool,
-        first,
-        base,
-    }
-}
-
-fn kind_of(b: u8) -> Kind
-    ensures { result ≡ flow_kind b }
-{
-    match b {
-        0 => Kind::On,
-        1 => Kind::Ends,
-        2 => Kind::Jumps,
-        3 => Kind::Branches,
-        4 => Kind::JumpsBack,
-        5 => Kind::Switch,
-        _ => Kind::On,
+        kind: Kind::from(words::byte_at(opcodes, at + 50)),
+        pool: words::byte_at(opcodes, at + 51) == 1,
+        first: words::byte_at(opcodes, at + 52),
+        base: words::byte_at(opcodes, at + 53) == 1,
     }
 }
 
 // Whether an opcode returns to the caller, by its name.
+#[tactic(auto, unfolding(crate::specs::Flow::is_return))]
 pub fn is_return(opcodes: &[u8], op: u8) -> bool
     ensures { result ≡ is_return opcodes.now op }
 {
     let at = tables::opcode_start(op);
-    if tables::name_is(opcodes, at, tables::OPCODE_NAME, b"Return") {
-        return true;
-    }
-    tables::name_is(opcodes, at, tables::OPCODE_NAME, b"SuspendGenerator")
+    tables::name_is(opcodes, at, tables::OPCODE_NAME, b"Return")
+        || tables::name_is(opcodes, at, tables::OPCODE_NAME, b"SuspendGenerator")
 }

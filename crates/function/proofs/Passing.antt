@@ -5,17 +5,16 @@ use mathlib.Core.Bool.{Bool}
 use mathlib.Core.List.{List, [], ◌∷◌}
 use native.Mathlib.Omega.{arith}
 use Rattle.refusal.specs.declared.Refusal.{Refusal}
-use Rattle.std.specs.Prelude.{Ok, Err}
+use Rattle.std.specs.Prelude.{None, Ok, Err}
 use Rattle.refusal.specs.Check.{Check}
 use Rattle.refusal.specs.Check.{first_refusal}
 use Rattle.refusal.proofs.Laws.{never, or_none, or_assoc}
 use Rattle.decoder.specs.declared.Instr.{Instr}
-use Rattle.decoder.specs.declared.Outcome.{Outcome}
-use Rattle.decoder.specs.declared.Decoded.{Decoded}
+use Rattle.decoder.specs.Decode.{Decoded, Done, instr_in}
 use Rattle.decoder.proofs.Passing.{PassInv, pass_start, pass_refused, pass_end, pass_instrs, pass_done}
 use Rattle.flow.specs.Opcodes.{Opcodes}
 use Rattle.targets.specs.Targets.{jump_table}
-use Rattle.function.specs.Code.{table_check, switch_check, code_check, listing_check}
+use Rattle.function.specs.Code.{table_check, switch_check, listing_check}
 pub use Rattle.decoder.proofs.Passing.{all_of, rest_of}
 
 module _ (ops : Opcodes) (pooled : Bool) (d : ℕ → Decoded) (len : ℕ) where
@@ -29,29 +28,29 @@ module _ (ops : Opcodes) (pooled : Bool) (d : ℕ → Decoded) (len : ℕ) where
   going_start = let z : suc len - 0 ≡ suc len = omega arith in record { passed = 0; pass = pass_start d len; switches = rw z }
 
   module _ {i : ℕ} {check : Check} (s : Going check i) where
-    pub going_refused : (r : Refusal) → (d i).outcome ≡ Outcome.Refused r → (Err r ≡ listing_check ops pooled (all_of d len)) × (code_check (all_of d len).outcome ≡ Ok tt → ⊥)
+    pub going_refused : (r : Refusal) → d i ≡ Err r → (Err r ≡ listing_check ops pooled (all_of d len)) × ((all_of d len).check ≡ Ok tt → ⊥)
     going_refused r e =
         let f = pass_refused d len s.pass r e in
-        (sym (ap (λ (x : Outcome). first_refusal (code_check x) (switch_check ops pooled (all_of d len).instrs)) f), λ ok. never r (sym (ap code_check f) ∙ ok))
+        (sym (ap (λ (x : Check). first_refusal x (switch_check ops pooled (all_of d len).instrs)) f), λ ok. never r (sym f ∙ ok))
 
-    pub going_end : (d i).outcome ≡ Outcome.End → (check ≡ listing_check ops pooled (all_of d len)) × ((rest_of d len s.passed i).instrs ≡ [])
+    pub going_end : d i ≡ Ok None → (check ≡ listing_check ops pooled (all_of d len)) × ((rest_of d len s.passed i).instrs ≡ [])
     unfolding switch_check
     going_end e =
         let f = pass_end d len s.pass e in
         let g = s.switches ∙ ap (λ (is : List Instr). first_refusal check (switch_check ops pooled is)) f.1 ∙ or_none check in
-        (sym (ap (λ (x : Outcome). first_refusal (code_check x) (switch_check ops pooled (all_of d len).instrs)) f.0 ∙ g), f.1)
+        (sym (ap (λ (x : Check). first_refusal x (switch_check ops pooled (all_of d len).instrs)) f.0 ∙ g), f.1)
 
     -- the instruction at i, and what is left behind it
-    pub going_instrs : (d i).outcome ≡ Outcome.Done → (rest_of d len s.passed i).instrs ≡ (d i).instr ∷ (rest_of d len (suc s.passed) (d i).instr.end).instrs
+    pub going_instrs : Done (d i) → (rest_of d len s.passed i).instrs ≡ instr_in (d i) ∷ (rest_of d len (suc s.passed) (instr_in (d i)).end).instrs
     going_instrs e = pass_instrs d len s.pass e
 
-    unfoldable pub going_done : (c' : Check) → (d i).outcome ≡ Outcome.Done → i < (d i).instr.end → (d i).instr.end ≤ len
-        → c' ≡ first_refusal check (table_check (jump_table pooled (ops.flow (d i).instr.opcode) (d i).instr) (d i).instr.offset)
-        → Going c' (d i).instr.end
+    unfoldable pub going_done : (c' : Check) → Done (d i) → i < (instr_in (d i)).end → (instr_in (d i)).end ≤ len
+        → c' ≡ first_refusal check (table_check (jump_table pooled (ops.flow (instr_in (d i)).opcode) (instr_in (d i))) (instr_in (d i)).offset)
+        → Going c' (instr_in (d i)).end
     unfolding switch_check
     going_done c' e low high is =
-        let t = table_check (jump_table pooled (ops.flow (d i).instr.opcode) (d i).instr) (d i).instr.offset in
-        let rest = (rest_of d len (suc s.passed) (d i).instr.end).instrs in
+        let t = table_check (jump_table pooled (ops.flow (instr_in (d i)).opcode) (instr_in (d i))) (instr_in (d i)).offset in
+        let rest = (rest_of d len (suc s.passed) (instr_in (d i)).end).instrs in
         record {
           passed = suc s.passed;
           pass = pass_done d len s.pass e low high;

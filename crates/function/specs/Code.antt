@@ -1,6 +1,6 @@
 -- A function's header and code, the instruction at a place, and the checks that are met as code is decoded: 11 to 16.
 use Rattle.std.specs.Prelude.{ℕ, List, [], ◌∷◌, Bool, take, drop}
-use Rattle.std.specs.Prelude.{Option, Some, None, Result, Ok, Err}
+use Rattle.std.specs.Prelude.{Option, Result, Ok, Err}
 use Rattle.refusal.specs.declared.Refusal.{Refusal}
 use Rattle.refusal.specs.Check.{Check}
 use Rattle.header.specs.declared.Header.{Header}
@@ -11,8 +11,7 @@ use Rattle.store.specs.Records.{object_of}
 use Rattle.layout.specs.Layout.{signed_value, layout_of}
 use Rattle.header.specs.Header.{header_of}
 use Rattle.decoder.specs.declared.Instr.{Instr}
-use Rattle.decoder.specs.declared.Outcome.{Outcome}
-use Rattle.decoder.specs.declared.Decoded.{Decoded}
+use Rattle.decoder.specs.Decode.{Decoded}
 use Rattle.decoder.specs.Listed.{Listing, decodes}
 use Rattle.flow.specs.Opcodes.{Opcodes, opcodes_of}
 use Rattle.targets.specs.Targets.{jump_table}
@@ -40,8 +39,7 @@ decoded_at f code at = decodes code (opcodes_of f.opcodes) f.types (signed_value
 
 -- ---- 11 to 16
 abbrev pub table_check : Result (Option Entries) BadSwitch → ℕ → Check
-table_check (Ok None) at = Ok tt
-table_check (Ok (Some e)) at = Ok tt
+table_check (Ok t) at = Ok tt
 table_check (Err e) at = refused fault.BadSwitch at
 
 -- 16: "any listed instruction, reached or not"; the place is the instruction's start
@@ -49,12 +47,6 @@ unfoldable pub switch_check : Opcodes → Bool → List Instr → Check
 switch_check ops pooled [] = Ok tt
 switch_check ops pooled (i ∷ is) = first_refusal (table_check (jump_table pooled (ops.flow i.opcode) i) i.offset) (switch_check ops pooled is)
 
--- 11 to 15, "met as decoding goes on"
-abbrev pub code_check : Outcome → Check
-code_check Outcome.End = Ok tt
-code_check Outcome.Done = Ok tt
-code_check (Outcome.Refused r) = Err r
-
--- 11 to 15 come before 16, wherever they lie
+-- 11 to 15, "met as decoding goes on", come before 16, wherever they lie
 abbrev pub listing_check : Opcodes → Bool → Listing → Check
-listing_check ops pooled l = first_refusal (code_check l.outcome) (switch_check ops pooled l.instrs)
+listing_check ops pooled l = first_refusal l.check (switch_check ops pooled l.instrs)

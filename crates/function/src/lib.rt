@@ -11,7 +11,7 @@ ghost use Rattle.function.specs.mirror.Function.{function_of};
 
 use refusal::{Fault, Refusal};
 use store::{Object, SlotValue};
-use tables::{Frame, Layout};
+use tables::{Frame, Layout, Prefixes};
 use targets::{BadSwitch, Entries, PoolSlots};
 
 // What is found once of a function: the tagged size, its pool, the frame, the parameter count, the prefix opcodes. Lent code has no header:
@@ -22,8 +22,7 @@ pub struct Function {
     pub pool: Option<PoolSlots>,
     pub frame: Frame,
     pub params: i32,
-    pub wide: usize,
-    pub extra: usize,
+    pub prefixes: Prefixes,
 }
 
 // Rows 1 to 8, of an object that is to be a BytecodeArray.
@@ -89,15 +88,12 @@ fn check_pool_object(
 pub fn function_of(opcodes: &[u8], shape: Layout, pool: Option<PoolSlots>, params: i32) -> Function
     ensures { result ≡ function_of opcodes.now shape pool params }
 {
-    let prefixes = tables::prefix_ops(opcodes);
-    let frame = shape.frame;
     Function {
         ts: shape.tagged_size,
         pool,
-        frame,
+        frame: shape.frame,
         params,
-        wide: prefixes.wide as usize,
-        extra: prefixes.extra_wide as usize,
+        prefixes: tables::prefix_ops(opcodes),
     }
 }
 
@@ -121,10 +117,7 @@ pub fn lent_pool(
 ) -> Option<PoolSlots>
     ensures { result ≡ lent_found objects.now slots.now shape object }
 {
-    match object {
-        None => None,
-        Some(n) => pool_of(objects, slots, shape, store::object_of(objects, n)),
-    }
+    pool_of(objects, slots, shape, store::object_of(objects, object?))
 }
 
 // The pool that a slot refers to.
@@ -132,10 +125,7 @@ pub fn lent_pool(
 fn pool_by(objects: &[u8], found: Option<SlotValue>) -> Option<PoolSlots>
     ensures { result ≡ pool_by objects.now found }
 {
-    let Some(value) = found else {
-        return None;
-    };
-    let SlotValue::Object(n) = value else {
+    let Some(SlotValue::Object(n)) = found else {
         return None;
     };
     let object = store::object_of(objects, n as usize);
@@ -150,8 +140,7 @@ pub fn table_check(table: Result<Option<Entries>, BadSwitch>, at: usize) -> Resu
     ensures { result ≡ table_check table at }
 {
     match table {
-        Ok(None) => Ok(()),
-        Ok(Some(_)) => Ok(()),
+        Ok(_) => Ok(()),
         Err(BadSwitch) => Err(Refusal {
             fault: Fault::BadSwitch,
             place: at,

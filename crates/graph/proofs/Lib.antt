@@ -5,7 +5,6 @@ pub mod Findings
 pub mod Marks
 pub mod Answers
 pub mod Queues
-pub mod Steps
 pub mod Walks
 pub mod Scan
 pub mod Same

@@ -1,11 +1,10 @@
 -- Tests on the elements of a list: what passes is among them, the first that passes, and counting what passes. Assumes nothing.
-use Prim.Native.Nat.{ℕ, zero, suc, ◌≤◌, zero-le}
+use Prim.Native.Nat.{ℕ, suc, ◌≤◌, zero-le}
 use mathlib.Core.Path.{◌≡◌, refl, sym, ap, ◌∙◌}
 use mathlib.Core.Bool.{Bool, true, false, cond, ◌&&◌, ◌||◌}
 use mathlib.Core.List.Memᴰ
 use mathlib.Core.List.{List, [], ◌∷◌, Memᴰ as Among}
 use mathlib.Core.Logic.{◌⊎◌, inl, inr, ⊎_elim}
-use Rattle.std.specs.Prelude.{None, Some, slice_get}
 use native.Mathlib.Omega.{arith}
 use borrow.Author.Tests.{eqb-true, eq-eqb}
 use lib.Dec.{eqb}
@@ -20,9 +19,6 @@ or_left b h = rw h
 pub or_right : (a : Bool) {b : Bool} → b ≡ true → (a || b) ≡ true
 or_right true h = refl
 or_right false h = h
-
-pub none_some : {A B : Type 0} {x : A} → None ≡ Some x → B
-none_some e = let z : ◌≡◌ {A = ℕ} 0 1 = cc in absurd (omega arith)
 
 -- ---- what passes, and where it stands
 module _ {A : Type 0} (p : A → Bool) where
@@ -41,16 +37,6 @@ module _ {A : Type 0} (p : A → Bool) where
   -- what is among elements of which none passes does not
   pub none_among : {x : A} {l : List A} → any p l ≡ false → Among x l → p x ≡ false
   none_among {x} e i = ⊎_elim (λ h. clash (among_any i h) e) (λ h. h) (either (p x))
-
-module _ {A : Type 0} where
-  pub at_among : (l : List A) (k : ℕ) {x : A} → slice_get l k ≡ Some x → Among x l
-  at_among [] k e = none_some e
-  at_among (y ∷ l) zero {x} e = let z : x ≡ y = cc in Among.head z
-  at_among (y ∷ l) (suc k) e = Among.tail (at_among l k e)
-
-  pub among_at : {x : A} {l : List A} → Among x l → (k : ℕ) × (slice_get l k ≡ Some x)
-  among_at (Among.head e) = (0, ap Some (sym e))
-  among_at (Among.tail i) = let k = among_at i in (suc k.0, k.1)
 
 -- ---- numbers
 pub elem_among : (t : ℕ) (l : List ℕ) → elem t l ≡ true → Among t l

@@ -1,14 +1,13 @@
--- Two graphs with the same starts, and from each start the same steps in whatever order and number: what is right of one is right of the other.
+-- Two graphs with the same starts, from each of which either does what the other does, by whatever steps: what is right of one is right of the other.
 -- Assumes nothing.
 use Prim.Native.Nat.{ℕ}
 use mathlib.Core.Path.{◌≡◌, sym, ap, ◌∙◌}
-use mathlib.Core.Bool.{true, not}
-use mathlib.Core.List.{List, Memᴰ as Among}
+use mathlib.Core.Bool.{true}
+use mathlib.Core.List.{List}
 use mathlib.Core.Logic.{inl, inr}
 use lib.ListN.{get_or}
 use Rattle.graph.specs.Lists.{elem}
-use Rattle.graph.specs.Graph.{Graph, Step, is_start, step_leaves, Succ, Exits, Reach, Leaving, Finding, Claim, Mark, Marked, Answer}
-use Rattle.graph.specs.Graph.Step.{to_offset, no_target}
+use Rattle.graph.specs.Graph.{Graph, is_start, Succ, Exits, Reach, Leaving, Finding, Claim, Mark, Marked, Answer}
 use Rattle.graph.specs.Graph.Reach.{here, next}
 use Rattle.graph.specs.Graph.Leaving.{leave}
 use Rattle.graph.specs.Graph.Finding.{closed, leaves}
@@ -23,19 +22,6 @@ pub record Less (g g' : Graph) : Type 0 where
 is_start_lem : (g g' : Graph) → g.starts ≡ g'.starts → (t : ℕ) → is_start g t ≡ is_start g' t
 unfolding is_start
 is_start_lem g g' e t = ap (elem t) e
-
--- the same starts, and from each of them no step that g' has not
-module _ {g g' : Graph} (starts : g.starts ≡ g'.starts) (steps : (o : ℕ) (s : Step) → is_start g o ≡ true → Among s (g.steps o) → Among s (g'.steps o)) where
-  leaves_too : (s : Step) → step_leaves g s ≡ true → step_leaves g' s ≡ true
-  leaves_too (to_offset t) e = sym (ap not (is_start_lem g g' starts t)) ∙ e
-  leaves_too no_target e = e
-
-  pub less_steps : Less g g'
-  less_steps = record {
-    starts = starts;
-    goes = λ o t e s. record { step = s.step; among = steps o s.step e s.among; goes = s.goes; start = sym (is_start_lem g g' starts t) ∙ s.start };
-    leaves = λ o e x. record { step = x.step; among = steps o x.step e x.among; leaves = leaves_too x.step x.leaves };
-  }
 
 module _ {g g' : Graph} (L : Less g g') where
   pub reach_too : {m o : ℕ} → Reach g m o → Reach g' m o

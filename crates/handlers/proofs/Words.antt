@@ -10,6 +10,7 @@ use native.Mathlib.Omega.{arith}
 use lib.ListN.{length, get_or, set, length-set}
 use lib.Seq.{get_or-set_same, get_or-set_other}
 use Rattle.laws.proofs.Tests.{same?}
+use Rattle.tables.specs.declared.Prefixes.{Prefixes}
 use Rattle.flow.specs.Flow.{is_return}
 use Rattle.handlers.specs.Handlers.{handler_count, handler_offset, is_held, handler_among}
 use Rattle.handlers.specs.mirror.Catches.{handler_word, catch_word, opcode_at, last_of, word_by, top, Painted, Caught}
@@ -25,10 +26,10 @@ word_last s o (suc n) = go (is_held s o n) (word_last s o n)
     go false h = h
 
 -- ---- one after the other
-module _ (code ops s B : List ℕ) (wide extra : ℕ) (C₀ : List ℕ) where
+module _ (code ops s B : List ℕ) (prefixes : Prefixes) (C₀ : List ℕ) where
   -- the word at o, by what the tables said
   abbrev pub word_at : ℕ → ℕ
-  word_at o = cond (is_return ops (opcode_at code wide extra o)) 0 (word_by s (top C₀ B o))
+  word_at o = cond (is_return ops (opcode_at code prefixes o)) 0 (word_by s (top C₀ B o))
 
   -- the words up to o stand, and behind them what was said
   pub record Catching (C : List ℕ) (o : ℕ) : Type 0 where
@@ -40,7 +41,7 @@ module _ (code ops s B : List ℕ) (wide extra : ℕ) (C₀ : List ℕ) where
   pub catching_start : length C₀ ≡ length code → Catching C₀ 0
   catching_start h = record { within = omega arith; as_long = h; done = λ t l. absurd (omega (arith, l)); left = λ t l. refl }
 
-  pub catching_more : {C : List ℕ} {o w : ℕ} (r : ℕ) → o < length code → r ≡ max (get_or C o 0) (get_or B (o / 256) 0) → w ≡ cond (is_return ops (opcode_at code wide extra o)) 0 (word_by s r) → Catching C o
+  pub catching_more : {C : List ℕ} {o w : ℕ} (r : ℕ) → o < length code → r ≡ max (get_or C o 0) (get_or B (o / 256) 0) → w ≡ cond (is_return ops (opcode_at code prefixes o)) 0 (word_by s r) → Catching C o
       → Catching (set C o w) (o + 1)
   catching_more {C} {o} {w} r h high by k = record {
     within = omega (arith, h);
@@ -53,17 +54,17 @@ module _ (code ops s B : List ℕ) (wide extra : ℕ) (C₀ : List ℕ) where
   }
     where
       is : w ≡ word_at o
-      is = by ∙ ap (λ (x : ℕ). cond (is_return ops (opcode_at code wide extra o)) 0 (word_by s x)) (high ∙ ap (λ (x : ℕ). max x (get_or B (o / 256) 0)) (k.left o (le_refl o)))
+      is = by ∙ ap (λ (x : ℕ). cond (is_return ops (opcode_at code prefixes o)) 0 (word_by s x)) (high ∙ ap (λ (x : ℕ). max x (get_or B (o / 256) 0)) (k.left o (le_refl o)))
 
-  pub caught : {C : List ℕ} {o : ℕ} → length code ≤ o → length C₀ ≡ length code → Catching C o → Painted s C₀ B (handler_count s) → Caught code ops s wide extra C
+  pub caught : {C : List ℕ} {o : ℕ} → length code ≤ o → length C₀ ≡ length code → Catching C o → Painted s C₀ B (handler_count s) → Caught code ops s prefixes C
   unfolding catch_word
   caught {C} {o} h same k p t l =
-      k.done t (omega (arith, h, l)) ∙ ap (λ (x : ℕ). cond (is_return ops (opcode_at code wide extra t)) 0 x) (ap (word_by s) (p t (omega (arith, same, l))) ∙ word_last s t (handler_count s))
+      k.done t (omega (arith, h, l)) ∙ ap (λ (x : ℕ). cond (is_return ops (opcode_at code prefixes t)) 0 x) (ap (word_by s) (p t (omega (arith, same, l))) ∙ word_last s t (handler_count s))
 
 -- without records zeros are the words
-pub caught_none : (code ops s : List ℕ) (wide extra : ℕ) (C : List ℕ) → length s ≡ 0 → ((o : ℕ) → get_or C o 0 ≡ 0) → Caught code ops s wide extra C
+pub caught_none : (code ops s : List ℕ) (prefixes : Prefixes) (C : List ℕ) → length s ≡ 0 → ((o : ℕ) → get_or C o 0 ≡ 0) → Caught code ops s prefixes C
 unfolding catch_word handler_among
-caught_none code ops s wide extra C none clear o l = clear o ∙ none_word (is_return ops (opcode_at code wide extra o))
+caught_none code ops s prefixes C none clear o l = clear o ∙ none_word (is_return ops (opcode_at code prefixes o))
   where
     count : handler_count s ≡ 0
     count = omega (arith, none)

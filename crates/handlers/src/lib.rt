@@ -10,6 +10,7 @@ ghost use Rattle.refusal.specs.Check.{Check};
 ghost use Rattle.refusal.specs.declared.Fault.TheVariants as fault;
 
 use refusal::{Fault, Refusal};
+use tables::Prefixes;
 
 // A record in bytes, and how many there may be.
 const HANDLER_SIZE: usize = 12;
@@ -67,12 +68,11 @@ pub fn catch_table(
     code: &[u8],
     opcodes: &[u8],
     handlers: &[u8],
-    wide: usize,
-    extra: usize,
+    prefixes: Prefixes,
     catches: &mut [u32],
 )
     ensures { Fits code.now handlers.now catches.old
-        → Caught code.now opcodes.now handlers.now wide extra catches.new }
+        → Caught code.now opcodes.now handlers.now prefixes catches.new }
 {
     if catches.len() != code.len()
         || MOST_CODE < code.len()
@@ -84,7 +84,7 @@ pub fn catch_table(
         return;
     }
     let mut blocks = [0u32; 256];
-    catch_by(code, opcodes, handlers, wide, extra, catches, &mut blocks);
+    catch_by(code, opcodes, handlers, prefixes, catches, &mut blocks);
 }
 
 // The same, with room for its blocks.
@@ -92,18 +92,17 @@ fn catch_by(
     code: &[u8],
     opcodes: &[u8],
     handlers: &[u8],
-    wide: usize,
-    extra: usize,
+    prefixes: Prefixes,
     catches: &mut [u32],
     blocks: &mut [u32],
 )
     requires { (length catches.old ≡ length code.now) × (length code.now ≤ 65536) × (length handlers.now ≤ 49152)
         × (length blocks.old ≡ 256) }
     ensures { Painted handlers.now catches.old blocks.old 0
-        → Caught code.now opcodes.now handlers.now wide extra catches.new }
+        → Caught code.now opcodes.now handlers.now prefixes catches.new }
 {
     paint_all(handlers, catches, blocks);
-    catch_all(code, opcodes, handlers, blocks, wide, extra, catches);
+    catch_all(code, opcodes, handlers, blocks, prefixes, catches);
 }
 
 // Lays record over record, so that the last one that holds a place is said of it.
@@ -162,17 +161,16 @@ fn catch_all(
     opcodes: &[u8],
     handlers: &[u8],
     blocks: &[u32],
-    wide: usize,
-    extra: usize,
+    prefixes: Prefixes,
     catches: &mut [u32],
 )
     requires { (length catches.old ≡ length code.now) × (length code.now ≤ 65536) × (length blocks.now ≡ 256) }
     ensures { Painted handlers.now catches.old blocks.now (handler_count handlers.now)
-        → Caught code.now opcodes.now handlers.now wide extra catches.new }
+        → Caught code.now opcodes.now handlers.now prefixes catches.new }
 {
     for o in 0..catches.len() {
         let r = catches[o].max(blocks[o / BLOCK]);
-        catches[o] = catch_at(code, opcodes, handlers, wide, extra, o, r);
+        catches[o] = catch_at(code, opcodes, handlers, prefixes, o, r);
     }
 }
 
@@ -181,18 +179,17 @@ fn catch_at(
     code: &[u8],
     opcodes: &[u8],
     handlers: &[u8],
-    wide: usize,
-    extra: usize,
+    prefixes: Prefixes,
     o: usize,
     r: u32,
 ) -> u32
     requires { o < length code.now }
-    ensures { result ≡ cond (is_return opcodes.now (opcode_at code.now wide extra o)) 0 (word_by handlers.now r) }
+    ensures { result ≡ cond (is_return opcodes.now (opcode_at code.now prefixes o)) 0 (word_by handlers.now r) }
 {
     if r == 0 {
         return 0;
     }
-    if flow::is_return(opcodes, opcode_at(code, wide, extra, o)) {
+    if flow::is_return(opcodes, opcode_at(code, prefixes, o)) {
         return 0;
     }
     let at = (r - 1) as usize * HANDLER_SIZE + 8;
@@ -201,12 +198,12 @@ fn catch_at(
 }
 
 // The opcode of what stands at o: behind a prefix the next byte.
-fn opcode_at(code: &[u8], wide: usize, extra: usize, o: usize) -> u8
+fn opcode_at(code: &[u8], prefixes: Prefixes, o: usize) -> u8
     requires { o < length code.now }
-    ensures { result ≡ opcode_at code.now wide extra o }
+    ensures { result ≡ opcode_at code.now prefixes o }
 {
     let b = code[o];
-    if b as usize == wide || b as usize == extra {
+    if prefixes.wide == Some(b) || prefixes.extra_wide == Some(b) {
         return words::byte_at(code, o + 1);
     }
     b

@@ -6,7 +6,6 @@
 ghost use Rattle.std.specs.Prelude.{◌≡◌};
 ghost use Rattle.serializer.specs.mirror.Search.{raw_searched};
 ghost use Rattle.serializer.specs.Length.{smi_field};
-ghost use Rattle.serializer.specs.Calls.{check_at};
 ghost use Rattle.header.specs.Header.{length_off, or_zero, length_by, length_ok, field_by, number_at, param_count, code_span, header_with, rt_for};
 ghost use Rattle.header.specs.mirror.Header.{raw_for, header_searched};
 ghost use Rattle.header.specs.Slots.{slot_by, untested, smi_raw, smi_by, plain_num, smi_num, num_by, field_num};
@@ -34,7 +33,7 @@ pub struct Header {
 // Calls on a lent store and an object number, with the checks of rows 6, 7 and 8.
 
 // The header of an object: rows 1 and 5 of the layout first; row 8 also where it is no BytecodeArray, then row 9.
-#[tactic(auto, unfolding(crate::specs::Calls::header_call))]
+#[tactic(auto, using(crate::proofs::Searched::header_called), unfolding(crate::specs::Calls::header_call))]
 pub fn header_at(
     objects: &[u8],
     slots: &[u8],
@@ -50,7 +49,7 @@ pub fn header_at(
     header_at_unchecked(slots, payload, o, tables::layout_of(layout))
 }
 
-#[tactic(auto, unfolding(crate::specs::Calls::smi_call))]
+#[tactic(auto, using(crate::proofs::Searched::smi_called), unfolding(crate::specs::Calls::smi_call))]
 pub fn smi_slot(
     objects: &[u8],
     slots: &[u8],
@@ -62,12 +61,12 @@ pub fn smi_slot(
     ensures { smi_slot_numbers result
         ≡ smi_slot_numbers (smi_call objects.now slots.now payload.now ts object slot) }
 {
-    check_at(objects, slots, payload, object)?;
+    serializer::check_at(objects, slots, payload, object)?;
     let o = store::object_of(objects, object);
     Ok(smi_slot_unchecked(slots, payload, o.first, o.count, ts, slot))
 }
 
-#[tactic(auto, unfolding(crate::specs::Calls::num_call))]
+#[tactic(auto, using(crate::proofs::Searched::num_called), unfolding(crate::specs::Calls::num_call))]
 pub fn num_field(
     objects: &[u8],
     slots: &[u8],
@@ -80,16 +79,9 @@ pub fn num_field(
     ensures { num_field_numbers result
         ≡ num_field_numbers (num_call objects.now slots.now payload.now ts object slot flags_smi) }
 {
-    check_at(objects, slots, payload, object)?;
+    serializer::check_at(objects, slots, payload, object)?;
     let o = store::object_of(objects, object);
     Ok(num_field_unchecked(slots, payload, o.first, o.count, ts, slot, flags_smi))
-}
-
-fn check_at(objects: &[u8], slots: &[u8], payload: &[u8], object: usize) -> Result<(), Refusal>
-    ensures { result ≡ check_at objects.now slots.now payload.now object }
-{
-    store::check_store(objects, slots, payload)?;
-    store::check_object(objects, object)
 }
 
 fn check_code(objects: &[u8], slots: &[u8], payload: &[u8], object: usize) -> Result<(), Refusal>
@@ -243,9 +235,9 @@ fn param_count(direct: bool, size: u32) -> i32
     ensures { result ≡ param_count direct size }
 {
     if direct {
-        words::signed32(size % 65536)
+        (size % 65536).cast_signed()
     } else {
-        words::eighth(words::signed32(size))
+        size.cast_signed() / 8
     }
 }
 
@@ -319,11 +311,11 @@ fn smi_untested(payload: &[u8], ts: u8, at: usize) -> Option<i64>
     match ts {
         8 => {
             let high = (words::u64_at(payload, at) / 4294967296) as u32;
-            Some(words::wide(words::signed32(high)))
+            Some(i64::from(high.cast_signed()))
         }
         4 => {
             let raw = words::u32_at(payload, at);
-            Some(words::wide(words::half(words::signed32(raw))))
+            Some(i64::from(raw.cast_signed() >> 1))
         }
         _ => None,
     }

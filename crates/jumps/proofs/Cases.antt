@@ -26,11 +26,9 @@ use Rattle.targets.specs.Targets.{pool_elem, operand_of, index_of, number_of, di
 use Rattle.function.specs.Files.{Files}
 use Rattle.function.specs.Pool.{pool_by}
 use Rattle.jumps.specs.Jumps.{target_of, target_call, table_of, table_call, entry_call}
-use Rattle.std.specs.Prelude.{Some, None}
+use Rattle.std.specs.Prelude.{Some, None, Ok, Err}
 use Rattle.refusal.specs.declared.Fault.TheVariants as fault
-use Rattle.jumps.specs.declared.TargetAnswer.TheVariants as target-answer
-use Rattle.jumps.specs.declared.TableAnswer.TheVariants as table-answer
-use Rattle.jumps.specs.declared.EntryAnswer.TheVariants as entry-answer
+use Rattle.jumps.specs.declared.Entry.TheVariants.{Shown, Skipped, Beyond}
 
 -- an object of kind 0, by its first slot and their count
 abbrev object_record : ℕ → ℕ → List ℕ
@@ -62,8 +60,8 @@ pub target-cases :
     ∷ target_call (files opcodes) (Some 0) (0x08 ∷ 0x00 ∷ []) 0
     ∷ target_call (files opcodes) (Some 2) (0x08 ∷ 0x00 ∷ []) 0
     ∷ [])
-    ≡ (target-answer.At 18446744073709551613 ∷ target-answer.End ∷ target-answer.Refused (refusal_at fault.BeyondCode 2) ∷ target-answer.Nothing ∷ target-answer.At 4
-    ∷ target-answer.Refused (refusal_at fault.NoObject 0) ∷ [])
+    ≡ (Ok (Some (Some 18446744073709551613)) ∷ Ok None ∷ Err (refusal_at fault.BeyondCode 2) ∷ Ok (Some None) ∷ Ok (Some (Some 4))
+    ∷ Err (refusal_at fault.NoObject 0) ∷ [])
 unfolding target_call target_of opcodes opcode typed types padded four fours layout check_table whole_records within first_from name_ok opcode_fields flow_fits type_code size_fits size_good name_fits is_named type_names
     ranges range_of le_at check_store sizes_ok object_ok slot_ok value_ok fields_ok falls falls_in object_of slot_of layout_of pool_by slot_at pool_elem elem_at down smi_bytes decode_at head_at
     first_marked read_parts parts_from width is_list kinds kind_of of_kind interpret modulo wrap32 signed name_at flow_kind flow_of operand_of index_of
@@ -83,7 +81,7 @@ pub table-cases :
     ∷ table_call (files opcodes) (Some 0) wide_switch 0
     ∷ table_call (files opcodes) None wide_switch 0
     ∷ [])
-    ≡ (table-answer.At (record { start = 0; count = 2; base = pos 5 }) ∷ table-answer.Nothing ∷ table-answer.At (record { start = 0; count = 2; base = pos 5 }) ∷ table-answer.Nothing
+    ≡ (Ok (Some (Some (record { start = 0; count = 2; base = pos 5 }))) ∷ Ok (Some None) ∷ Ok (Some (Some (record { start = 0; count = 2; base = pos 5 }))) ∷ Ok (Some None)
     ∷ [])
 unfolding table_call table_of opcodes opcode typed types padded four fours layout check_table whole_records within first_from name_ok opcode_fields flow_fits type_code size_fits size_good name_fits is_named type_names
     ranges range_of le_at check_store sizes_ok object_ok slot_ok value_ok fields_ok falls falls_in object_of slot_of layout_of pool_by slot_at decode_at head_at
@@ -102,8 +100,8 @@ pub entry-cases :
     ∷ entry_call (files opcodes) (Some 0) wide_switch 0 0
     ∷ entry_call (files opcodes) (Some 0) wide_switch 0 1
     ∷ [])
-    ≡ (entry-answer.Shown (pos 5) 4 ∷ entry-answer.Skipped ∷ entry-answer.Beyond ∷ entry-answer.Nothing ∷ entry-answer.Nothing ∷ entry-answer.End
-    ∷ entry-answer.Shown (pos 5) 5 ∷ entry-answer.Skipped ∷ [])
+    ≡ (Ok (Some (Some (Shown (record { case = pos 5; target = 4 })))) ∷ Ok (Some (Some Skipped)) ∷ Ok (Some (Some Beyond)) ∷ Ok (Some None) ∷ Ok (Some None) ∷ Ok None
+    ∷ Ok (Some (Some (Shown (record { case = pos 5; target = 5 })))) ∷ Ok (Some (Some Skipped)) ∷ [])
 unfolding entry_call table_call table_of opcodes opcode typed types padded four fours layout check_table whole_records within first_from name_ok opcode_fields flow_fits type_code size_fits size_good name_fits is_named type_names
     ranges range_of le_at check_store sizes_ok object_ok slot_ok value_ok fields_ok falls falls_in object_of slot_of layout_of pool_by slot_at pool_elem elem_at down smi_bytes decode_at head_at
     first_marked read_parts parts_from width is_list kinds kind_of of_kind interpret modulo wrap32 signed name_at flow_kind flow_of operand_of index_of
@@ -117,7 +115,7 @@ signed_switch = opcode "SwitchOnSmiNoFeedback" 0 (10 ∷ 9 ∷ 9 ∷ []) (5 ∷ 
 abbrev two_switches : List ℕ
 two_switches = 0x00 ∷ 0x00 ∷ 0x01 ∷ 0x05 ∷ 0x00 ∷ 0x00 ∷ 0xff ∷ 0x05 ∷ []
 
-pub sixteen_case : table_call (files signed_switch) (Some 0) two_switches 4 ≡ table-answer.Refused (refusal_at fault.BadSwitch 4)
+pub sixteen_case : table_call (files signed_switch) (Some 0) two_switches 4 ≡ Err (refusal_at fault.BadSwitch 4)
 unfolding table_call table_of opcode typed types padded four fours layout check_table whole_records within first_from name_ok opcode_fields flow_fits type_code size_fits size_good name_fits is_named type_names
     ranges range_of le_at check_store sizes_ok object_ok slot_ok value_ok fields_ok falls falls_in object_of slot_of layout_of pool_by slot_at decode_at head_at
     first_marked read_parts parts_from width is_list kinds kind_of of_kind interpret modulo wrap32 signed name_at flow_kind flow_of operand_of index_of
@@ -125,14 +123,14 @@ unfolding table_call table_of opcode typed types padded four fours layout check_
 sixteen_case = refl
 
 -- under Wide too
-pub sixteen_wide : table_call (files (opcode "Wide" 1 [] [] ++ signed_switch)) (Some 0) (0x00 ∷ 0x01 ∷ 0x00 ∷ 0x00 ∷ 0x01 ∷ 0x10 ∷ 0x05 ∷ 0x00 ∷ []) 0 ≡ table-answer.Refused (refusal_at fault.BadSwitch 0)
+pub sixteen_wide : table_call (files (opcode "Wide" 1 [] [] ++ signed_switch)) (Some 0) (0x00 ∷ 0x01 ∷ 0x00 ∷ 0x00 ∷ 0x01 ∷ 0x10 ∷ 0x05 ∷ 0x00 ∷ []) 0 ≡ Err (refusal_at fault.BadSwitch 0)
 unfolding table_call table_of opcode typed types padded four fours layout check_table whole_records within first_from name_ok opcode_fields flow_fits type_code size_fits size_good name_fits is_named type_names
     ranges range_of le_at check_store sizes_ok object_ok slot_ok value_ok fields_ok falls falls_in object_of slot_of layout_of pool_by slot_at decode_at head_at
     first_marked read_parts parts_from width is_list kinds kind_of of_kind interpret modulo wrap32 signed name_at flow_kind flow_of operand_of index_of
     number_of jump_table table_by sized_by
 sixteen_wide = refl
 
-pub sixteen_target : target_call (files signed_switch) (Some 0) two_switches 4 ≡ target-answer.Nothing
+pub sixteen_target : target_call (files signed_switch) (Some 0) two_switches 4 ≡ Ok (Some None)
 unfolding target_call target_of opcode typed types padded four fours layout check_table whole_records within first_from name_ok opcode_fields flow_fits type_code size_fits size_good name_fits is_named type_names
     ranges range_of le_at check_store sizes_ok object_ok slot_ok value_ok fields_ok falls falls_in object_of slot_of layout_of pool_by slot_at decode_at head_at
     first_marked read_parts parts_from width is_list kinds kind_of of_kind interpret modulo wrap32 signed name_at flow_kind flow_of jump_target

@@ -3,61 +3,56 @@ use Prim.Native.Nat.{ℕ, zero, suc}
 use mathlib.Core.Path.{◌≡◌, refl, ap}
 use mathlib.Core.List.{List}
 use lib.IntN.{ℤ}
+use Rattle.std.specs.Prelude.{Option, Some, None, Ok, Err}
 use Rattle.refusal.specs.declared.Refusal.{Refusal}
-use Rattle.refusal.specs.Numbers.{Numbers}
+use Rattle.refusal.specs.Numbers.{Numbers, finds_nothing}
 use Rattle.refusal.proofs.Numbers.{one_by, refusal_back, refused_or, found_or, end_or, value, count}
-use Rattle.jumps.specs.Numbers.{target_numbers, table_numbers, entry_numbers}
-use Rattle.jumps.specs.declared.TargetAnswer.{TargetAnswer}
-use Rattle.jumps.specs.declared.TargetAnswer.TheVariants as target-answer
-use Rattle.jumps.specs.declared.TableAnswer.{TableAnswer}
-use Rattle.jumps.specs.declared.TableAnswer.TheVariants as table-answer
-use Rattle.jumps.specs.declared.EntryAnswer.{EntryAnswer}
-use Rattle.jumps.specs.declared.EntryAnswer.TheVariants as entry-answer
+use Rattle.targets.specs.declared.Entries.{Entries}
+use Rattle.jumps.specs.Jumps.{Asked}
+use Rattle.jumps.specs.Numbers.{asked_numbers, target_numbers, table_numbers, shown_numbers, entry_numbers}
+use Rattle.jumps.specs.declared.Entry.{Entry}
+use Rattle.jumps.specs.declared.Entry.TheVariants.{Shown, Skipped, Beyond}
 
-abbrev target_read : Numbers → TargetAnswer
-target_read n =
-    refused_or target-answer.Refused (found_or (end_or target-answer.End target-answer.Nothing n) (λ vs. target-answer.At (count 0 vs))) n
+-- an answer by its numbers; `found` reads back what the instruction has
+abbrev asked_read : {A : Type 0} → (Numbers → Option A) → Numbers → Asked A
+asked_read found n = refused_or Err (λ vs. end_or (Ok None) (Ok (Some (found n))) n) n
 
-target_back_lem : (at : ℕ) (a : TargetAnswer) → target_read (target_numbers at a) ≡ a
-target_back_lem at (target-answer.At t) = refl
-target_back_lem at target-answer.Nothing = refl
-target_back_lem at target-answer.End = refl
-target_back_lem at (target-answer.Refused r) = ap (λ (x : Refusal). target-answer.Refused x) (refusal_back r)
+module _ {A : Type 0} (told : A → Numbers) (found : Numbers → Option A) (nothing : found finds_nothing ≡ None)
+    (back : (a : A) → asked_read found (told a) ≡ Ok (Some (Some a))) where
+  asked_back : (at : ℕ) (x : Asked A) → asked_read found (asked_numbers told at x) ≡ x
+  asked_back at (Ok (Some (Some a))) = back a
+  asked_back at (Ok (Some None)) = ap (λ (x : Option A). Ok (Some x)) nothing
+  asked_back at (Ok None) = refl
+  asked_back at (Err r) = ap (λ (x : Refusal). Err x) (refusal_back r)
 
-pub target_numbers_one : (at : ℕ) (a b : TargetAnswer) → target_numbers at a ≡ target_numbers at b → a ≡ b
-target_numbers_one at = one_by (target_numbers at) target_read (target_back_lem at)
+  asked_one : (at : ℕ) (a b : Asked A) → asked_numbers told at a ≡ asked_numbers told at b → a ≡ b
+  asked_one at = one_by (asked_numbers told at) (asked_read found) (asked_back at)
 
-abbrev table_of : List ℤ → TableAnswer
-table_of vs = table-answer.At (record { start = count 0 vs; count = count 1 vs; base = value 2 vs })
+abbrev target_found : Numbers → Option ℕ
+target_found n = found_or None (λ vs. Some (count 0 vs)) n.values
 
-abbrev table_read : Numbers → TableAnswer
-table_read n = refused_or table-answer.Refused (found_or (end_or table-answer.End table-answer.Nothing n) table_of) n
+pub target_numbers_one : (at : ℕ) (a b : Asked ℕ) → target_numbers at a ≡ target_numbers at b → a ≡ b
+target_numbers_one = asked_one _ target_found refl (λ t. refl)
 
-table_back : (at : ℕ) (a : TableAnswer) → table_read (table_numbers at a) ≡ a
-table_back at (table-answer.At e) = refl
-table_back at table-answer.Nothing = refl
-table_back at table-answer.End = refl
-table_back at (table-answer.Refused r) = ap (λ (x : Refusal). table-answer.Refused x) (refusal_back r)
+abbrev table_found : Numbers → Option Entries
+table_found n = found_or None (λ vs. Some (record { start = count 0 vs; count = count 1 vs; base = value 2 vs })) n.values
 
-pub table_numbers_one : (at : ℕ) (a b : TableAnswer) → table_numbers at a ≡ table_numbers at b → a ≡ b
-table_numbers_one at = one_by (table_numbers at) table_read (table_back at)
+pub table_numbers_one : (at : ℕ) (a b : Asked Entries) → table_numbers at a ≡ table_numbers at b → a ≡ b
+table_numbers_one = asked_one _ table_found refl (λ e. refl)
 
-abbrev entry_of_kind : ℕ → Numbers → EntryAnswer
-entry_of_kind zero n = end_or entry-answer.End entry-answer.Nothing n
-entry_of_kind (suc zero) n = entry-answer.Shown (value 1 n.values) (count 2 n.values)
-entry_of_kind (suc (suc zero)) n = entry-answer.Skipped
-entry_of_kind (suc (suc (suc k))) n = entry-answer.Beyond
+abbrev entry_by : ℕ → List ℤ → Option Entry
+entry_by zero vs = None
+entry_by (suc zero) vs = Some (Shown (record { case = value 1 vs; target = count 2 vs }))
+entry_by (suc (suc zero)) vs = Some Skipped
+entry_by (suc (suc (suc k))) vs = Some Beyond
 
-abbrev entry_read : Numbers → EntryAnswer
-entry_read n = refused_or entry-answer.Refused (λ vs. entry_of_kind (count 0 vs) n) n
+abbrev entry_found : Numbers → Option Entry
+entry_found n = entry_by (count 0 n.values) n.values
 
-entry_back : (at : ℕ) (a : EntryAnswer) → entry_read (entry_numbers at a) ≡ a
-entry_back at (entry-answer.Shown case target) = refl
-entry_back at entry-answer.Skipped = refl
-entry_back at entry-answer.Beyond = refl
-entry_back at entry-answer.Nothing = refl
-entry_back at entry-answer.End = refl
-entry_back at (entry-answer.Refused r) = ap (λ (x : Refusal). entry-answer.Refused x) (refusal_back r)
+entry_back : (e : Entry) → asked_read entry_found (shown_numbers e) ≡ Ok (Some (Some e))
+entry_back (Shown c) = refl
+entry_back Skipped = refl
+entry_back Beyond = refl
 
-pub entry_numbers_one : (at : ℕ) (a b : EntryAnswer) → entry_numbers at a ≡ entry_numbers at b → a ≡ b
-entry_numbers_one at = one_by (entry_numbers at) entry_read (entry_back at)
+pub entry_numbers_one : (at : ℕ) (a b : Asked Entry) → entry_numbers at a ≡ entry_numbers at b → a ≡ b
+entry_numbers_one = asked_one _ entry_found refl entry_back

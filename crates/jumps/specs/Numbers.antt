@@ -1,31 +1,31 @@
 -- The answers of the calls at a place of lent code, in 01's numbers; "end" is told at that place.
-use Rattle.std.specs.Prelude.{ℕ, [], ◌∷◌, pos}
+use Rattle.std.specs.Prelude.{ℕ, [], ◌∷◌, pos, Some, None, Ok, Err}
 use Rattle.refusal.specs.Numbers.{Numbers, refusal_numbers, answered, finds, finds_nothing, end_at}
-use Rattle.jumps.specs.declared.TargetAnswer.{TargetAnswer}
-use Rattle.jumps.specs.declared.TargetAnswer.TheVariants as target-answer
-use Rattle.jumps.specs.declared.TableAnswer.{TableAnswer}
-use Rattle.jumps.specs.declared.TableAnswer.TheVariants as table-answer
-use Rattle.jumps.specs.declared.EntryAnswer.{EntryAnswer}
-use Rattle.jumps.specs.declared.EntryAnswer.TheVariants as entry-answer
+use Rattle.targets.specs.declared.Entries.{Entries}
+use Rattle.jumps.specs.Jumps.{Asked}
+use Rattle.jumps.specs.declared.Entry.{Entry}
+use Rattle.jumps.specs.declared.Entry.TheVariants.{Shown, Skipped, Beyond}
 
-abbrev pub target_numbers : ℕ → TargetAnswer → Numbers
-target_numbers at (target-answer.At t) = finds (pos t ∷ [])
-target_numbers at target-answer.Nothing = finds_nothing
-target_numbers at target-answer.End = end_at at
-target_numbers at (target-answer.Refused r) = refusal_numbers r
+-- nothing where the instruction has no target or table, "end" at the code's end
+abbrev pub asked_numbers : {A : Type 0} → (A → Numbers) → ℕ → Asked A → Numbers
+asked_numbers told at (Ok (Some (Some a))) = told a
+asked_numbers told at (Ok (Some None)) = finds_nothing
+asked_numbers told at (Ok None) = end_at at
+asked_numbers told at (Err r) = refusal_numbers r
+
+abbrev pub target_numbers : ℕ → Asked ℕ → Numbers
+target_numbers at a = asked_numbers (λ t. finds (pos t ∷ [])) at a
 
 -- the pool element of the first entry, the number of entries, the first case
-abbrev pub table_numbers : ℕ → TableAnswer → Numbers
-table_numbers at (table-answer.At e) = finds (pos e.start ∷ pos e.count ∷ e.base ∷ [])
-table_numbers at table-answer.Nothing = finds_nothing
-table_numbers at table-answer.End = end_at at
-table_numbers at (table-answer.Refused r) = refusal_numbers r
+abbrev pub table_numbers : ℕ → Asked Entries → Numbers
+table_numbers at a = asked_numbers (λ (e : Entries). finds (pos e.start ∷ pos e.count ∷ e.base ∷ [])) at a
 
--- 1, a case and its target; 2 for an element that is skipped, 3 for no entry of the table, 0 for no table
-abbrev pub entry_numbers : ℕ → EntryAnswer → Numbers
-entry_numbers at (entry-answer.Shown case target) = finds (case ∷ pos target ∷ [])
-entry_numbers at entry-answer.Skipped = answered (pos 2 ∷ [])
-entry_numbers at entry-answer.Beyond = answered (pos 3 ∷ [])
-entry_numbers at entry-answer.Nothing = finds_nothing
-entry_numbers at entry-answer.End = end_at at
-entry_numbers at (entry-answer.Refused r) = refusal_numbers r
+-- 1, a case and its target; 2 for an element that is skipped, 3 for no entry of the table
+abbrev pub shown_numbers : Entry → Numbers
+shown_numbers (Shown c) = finds (c.case ∷ pos c.target ∷ [])
+shown_numbers Skipped = answered (pos 2 ∷ [])
+shown_numbers Beyond = answered (pos 3 ∷ [])
+
+-- the same; 0 for no table
+abbrev pub entry_numbers : ℕ → Asked Entry → Numbers
+entry_numbers at a = asked_numbers shown_numbers at a

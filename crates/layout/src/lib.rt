@@ -1,7 +1,7 @@
 // The layout file: row 5, and its values. Every function is total: a byte past the end is 0.
 #![tactic(auto)]
 
-ghost use Rattle.std.specs.Prelude.{◌≡◌, ◌+◌, ◌-◌, ◌*◌, ◌/◌, ◌<◌, ◌||◌, eqb, leb, length};
+ghost use Rattle.std.specs.Prelude.{◌≡◌, ◌<◌, ◌||◌, eqb, leb};
 ghost use Rattle.layout.specs.Layout.{check_layout, value, signed_value, range_of, in_range, field_of, slot_for, osr_field, param_base_of, slot_unit, frame_of, layout_of};
 
 use refusal::{Fault, Refusal};
@@ -45,7 +45,6 @@ pub fn layout_of(layout: &[u8]) -> Layout
     ensures { result ≡ layout_of layout.now }
 {
     let unit = slot_unit(layout);
-    let frame = frame_of(layout);
     Layout {
         tagged_size: (value(layout, 0) % 256) as u8,
         unit,
@@ -59,7 +58,7 @@ pub fn layout_of(layout: &[u8]) -> Layout
         osr: osr_field(value(layout, 9), value(layout, 10)),
         age: field_of(value(layout, 11)),
         direct: value(layout, 12) != 0,
-        frame,
+        frame: frame_of(layout),
     }
 }
 
@@ -131,7 +130,7 @@ fn value(layout: &[u8], k: u8) -> u32
 fn signed_value(layout: &[u8], k: u8) -> i32
     ensures { result ≡ signed_value layout.now k }
 {
-    words::signed32(value(layout, k))
+    value(layout, k).cast_signed()
 }
 
 fn field_of(v: u32) -> Option<u32>
@@ -167,12 +166,11 @@ fn param_base(present: u32, base: i32) -> Option<i32>
 fn frame_of(layout: &[u8]) -> Frame
     ensures { result ≡ frame_of layout.now }
 {
-    let base = param_base(value(layout, 18), signed_value(layout, 17));
     Frame {
         reg_file_start: signed_value(layout, 13),
         context: signed_value(layout, 14),
         closure: signed_value(layout, 15),
         first_param: signed_value(layout, 16),
-        param_base: base,
+        param_base: param_base(value(layout, 18), signed_value(layout, 17)),
     }
 }

@@ -38,9 +38,10 @@ pub fn put_instr(
     let p = put_place(out, bytes, instr.offset);
     let mut p = bytecode::instr_name(out, p, opcodes, instr.opcode, instr.scale);
     for k in 0..n {
-        let op = operands[k].operand;
         p = put_before(out, p, k);
-        p = bytecode::render_operand(out, p, types, runtime, intrinsic, frame, f.params, op);
+        if let Some(op) = operands[k].operand {
+            p = bytecode::render_operand(out, p, types, runtime, intrinsic, frame, f.params, op);
+        }
     }
     p
 }
@@ -60,10 +61,8 @@ pub fn put_goes(
         → Put out.old at
         (goes_by (elems_of slots.now payload.now f) (found f.pool) flow instr) out.new result }
 {
-    let kind = flow.kind;
-    match kind {
-        Kind::On => text::put_byte(out, at, b'\n'),
-        Kind::Ends => text::put_byte(out, at, b'\n'),
+    match flow.kind {
+        Kind::On | Kind::Ends => text::put_byte(out, at, b'\n'),
         _ => put_targets(out, at, slots, payload, blocks, f, flow, instr),
     }
 }
@@ -112,12 +111,8 @@ fn target_room(kind: Kind) -> u8
     ensures { result ≡ target_room kind }
 {
     match kind {
-        Kind::On => 0,
-        Kind::Ends => 0,
-        Kind::Switch => 0,
-        Kind::Jumps => 30,
-        Kind::Branches => 30,
-        Kind::JumpsBack => 30,
+        Kind::On | Kind::Ends | Kind::Switch => 0,
+        Kind::Jumps | Kind::Branches | Kind::JumpsBack => 30,
     }
 }
 
@@ -126,9 +121,8 @@ fn entries_of(table: Result<Option<Entries>, BadSwitch>) -> u16
     ensures { result ≡ entries_of table }
 {
     match table {
-        Ok(None) => 0,
-        Err(BadSwitch) => 0,
         Ok(Some(e)) => e.count,
+        _ => 0,
     }
 }
 
@@ -181,8 +175,7 @@ fn put_table(
         → Put out.old at (table_text (elems_of slots.now payload.now f) here table) out.new result }
 {
     match table {
-        Ok(None) => text::saturating_add(at, 0),
-        Err(BadSwitch) => text::saturating_add(at, 0),
+        Ok(None) | Err(BadSwitch) => text::saturating_add(at, 0),
         Ok(Some(e)) => {
             let p = text::put_bytes(out, at, b" {");
             let p = put_entries(out, p, slots, payload, blocks, f, here, e);
@@ -245,8 +238,5 @@ fn put_comma(out: &mut [u8], at: usize, shown: bool) -> usize
 fn shown_after(shown: bool, entry: Option<Case>) -> bool
     ensures { result ≡ shown_after shown entry }
 {
-    match entry {
-        Some(_) => true,
-        None => shown,
-    }
+    shown || entry.is_some()
 }

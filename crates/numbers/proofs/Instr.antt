@@ -8,57 +8,59 @@ use lib.IntN.{pos}
 use lib.ListN.{length, get_or, set, length-append, length-map, get_or-append, get_or-map}
 use lib.Seq.{get_or-set_same, get_or-set_other, get_or-append-add, ext_get_or}
 use Rattle.laws.proofs.Tests.{same?, under?}
+use Rattle.std.specs.Prelude.{Option, Some, None}
 use Rattle.operand.specs.declared.Operand.{Operand}
-use Rattle.operand.specs.declared.Operand.TheVariants.{Nothing, Reg, RegList, Imm, Idx, Flag8, Flag16, RuntimeId, IntrinsicId, Raw}
-use Rattle.operand.specs.Numbers.{operand_numbers}
+use Rattle.operand.specs.declared.Operand.TheVariants.{Reg, RegList, Imm, Idx, Flag8, Flag16, RuntimeId, IntrinsicId, Raw}
+use Rattle.operand.specs.Numbers.{place_numbers}
 use Rattle.decoder.specs.declared.OperandRecord.{OperandRecord}
 use Rattle.decoder.specs.declared.Instr.{Instr}
+use Rattle.decoder.specs.Decode.{record_of}
 use Rattle.bytecode.specs.Numbers.{operands_numbers, instr_numbers}
 use Rattle.numbers.specs.Told.{told64}
 use Rattle.numbers.specs.mirror.Instr.{operand_in, instr_number, NumbersAre}
 
 -- ---- number k
-three : (o : Operand) → length (operand_numbers o) ≡ 3
-three Nothing = refl
-three (Reg i) = refl
-three (RegList first count) = refl
-three (Imm v) = refl
-three (Idx v) = refl
-three (Flag8 v) = refl
-three (Flag16 v) = refl
-three (RuntimeId v) = refl
-three (IntrinsicId v) = refl
-three (Raw ty value) = refl
+three : (p : Option Operand) → length (place_numbers p) ≡ 3
+three None = refl
+three (Some (Reg i)) = refl
+three (Some (RegList first count)) = refl
+three (Some (Imm v)) = refl
+three (Some (Idx v)) = refl
+three (Some (Flag8 v)) = refl
+three (Some (Flag16 v)) = refl
+three (Some (RuntimeId v)) = refl
+three (Some (IntrinsicId v)) = refl
+three (Some (Raw ty value)) = refl
 
-none_at : (t : ℕ) → get_or (operand_numbers Nothing) t (pos 0) ≡ pos 0
+none_at : (t : ℕ) → get_or (place_numbers None) t (pos 0) ≡ pos 0
 none_at zero = refl
 none_at (suc zero) = refl
 none_at (suc (suc zero)) = refl
 none_at (suc (suc (suc t))) = refl
 
-abbrev operand_at : List OperandRecord → ℕ → Operand
-operand_at rs j = (get_or rs j (record { operand = Nothing })).operand
+abbrev operand_at : List OperandRecord → ℕ → Option Operand
+operand_at rs j = (get_or rs j (record_of None)).operand
 
-operands_at_lem : (rs : List OperandRecord) (j : ℕ) → get_or (operands_numbers rs) j (pos 0) ≡ get_or (operand_numbers (operand_at rs (j / 3))) (j % 3) (pos 0)
+operands_at_lem : (rs : List OperandRecord) (j : ℕ) → get_or (operands_numbers rs) j (pos 0) ≡ get_or (place_numbers (operand_at rs (j / 3))) (j % 3) (pos 0)
 operands_at_lem [] j = sym (none_at (j % 3))
 operands_at_lem (r ∷ rs) j = ⊎_elim here (there (operands_at_lem rs (j - 3))) (under? j 3)
   where
-    here : j < 3 → get_or (operands_numbers (r ∷ rs)) j (pos 0) ≡ get_or (operand_numbers (operand_at (r ∷ rs) (j / 3))) (j % 3) (pos 0)
+    here : j < 3 → get_or (operands_numbers (r ∷ rs)) j (pos 0) ≡ get_or (place_numbers (operand_at (r ∷ rs) (j / 3))) (j % 3) (pos 0)
     here h =
         let d : j / 3 ≡ 0 = omega arith in
         let m : j % 3 ≡ j = omega arith in
-        rw (d, m) (get_or-append (operand_numbers r.operand) (operands_numbers rs) (pos 0) j (omega (arith, three r.operand)))
+        rw (d, m) (get_or-append (place_numbers r.operand) (operands_numbers rs) (pos 0) j (omega (arith, three r.operand)))
 
-    there : get_or (operands_numbers rs) (j - 3) (pos 0) ≡ get_or (operand_numbers (operand_at rs ((j - 3) / 3))) ((j - 3) % 3) (pos 0)
-        → 3 ≤ j → get_or (operands_numbers (r ∷ rs)) j (pos 0) ≡ get_or (operand_numbers (operand_at (r ∷ rs) (j / 3))) (j % 3) (pos 0)
+    there : get_or (operands_numbers rs) (j - 3) (pos 0) ≡ get_or (place_numbers (operand_at rs ((j - 3) / 3))) ((j - 3) % 3) (pos 0)
+        → 3 ≤ j → get_or (operands_numbers (r ∷ rs)) j (pos 0) ≡ get_or (place_numbers (operand_at (r ∷ rs) (j / 3))) (j % 3) (pos 0)
     there rest h =
         let d : j / 3 ≡ suc ((j - 3) / 3) = omega arith in
         let m : j % 3 ≡ (j - 3) % 3 = omega arith in
-        let e : j ≡ length (operand_numbers r.operand) + (j - 3) = omega (arith, three r.operand) in
-        ap (λ (k : ℕ). get_or (operands_numbers (r ∷ rs)) k (pos 0)) e ∙ get_or-append-add (operand_numbers r.operand) (operands_numbers rs) (j - 3) (pos 0) ∙ rw (d, m) rest
+        let e : j ≡ length (place_numbers r.operand) + (j - 3) = omega (arith, three r.operand) in
+        ap (λ (k : ℕ). get_or (operands_numbers (r ∷ rs)) k (pos 0)) e ∙ get_or-append-add (place_numbers r.operand) (operands_numbers rs) (j - 3) (pos 0) ∙ rw (d, m) rest
 
 -- from number 4 on, three for each operand
-pub instr_operand : (i : Instr) (k : ℕ) → 4 ≤ k → instr_number i k ≡ told64 (get_or (operand_numbers (operand_in i ((k - 4) / 3))) ((k - 4) % 3) (pos 0))
+pub instr_operand : (i : Instr) (k : ℕ) → 4 ≤ k → instr_number i k ≡ told64 (get_or (place_numbers (operand_in i ((k - 4) / 3))) ((k - 4) % 3) (pos 0))
 instr_operand i k h =
     let e : k ≡ suc (suc (suc (suc (k - 4)))) = omega arith in
     ap (λ (n : ℕ). instr_number i n) e ∙ ap told64 (operands_at_lem i.operands (k - 4))

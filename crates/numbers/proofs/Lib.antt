@@ -1,5 +1,4 @@
 pub mod Fits
-pub mod Laws
 pub mod Instr
 pub mod Back
 pub mod Inverse

@@ -1,10 +1,10 @@
 -- The way back: the instruction that 28 numbers tell. Laws of proofs/Inverse.antt: the numbers that are told of an instruction tell it (`told_back`),
 -- and three numbers that tell an operand are those that are told of it (`told_again`).
-use Rattle.std.specs.Prelude.{ℕ, zero, suc, ◌+◌, ◌-◌, ◌*◌, ◌%◌, ◌^◌, Bool, cond, ◌&&◌, ◌||◌, List, [], ◌∷◌, eqb, leb, ltb, get_or}
+use Rattle.std.specs.Prelude.{ℕ, zero, suc, ◌+◌, ◌-◌, ◌*◌, ◌%◌, ◌^◌, Bool, cond, ◌&&◌, ◌||◌, List, [], ◌∷◌, eqb, leb, ltb, get_or, Option, Some, None}
 use Rattle.std.specs.Int.{w64}
 use mir.Val.{to_z}
 use Rattle.operand.specs.declared.Operand.{Operand}
-use Rattle.operand.specs.declared.Operand.TheVariants.{Nothing, Reg, RegList, Imm, Idx, Flag8, Flag16, RuntimeId, IntrinsicId, Raw}
+use Rattle.operand.specs.declared.Operand.TheVariants.{Reg, RegList, Imm, Idx, Flag8, Flag16, RuntimeId, IntrinsicId, Raw}
 use Rattle.decoder.specs.declared.OperandRecord.{OperandRecord}
 use Rattle.decoder.specs.declared.Instr.{Instr}
 use Rattle.decoder.specs.Decode.{record_of}
@@ -14,15 +14,15 @@ unfoldable pub is_i32 : ℕ → Bool
 is_i32 a = ltb a (2 ^ 31) || leb (2 ^ 64 - 2 ^ 31) a
 
 -- an operand where its numbers are in range, else none
-abbrev pub only : Bool → Operand → Operand
-only b o = cond b o Nothing
+abbrev pub only : Bool → Operand → Option Operand
+only b o = cond b (Some o) None
 
 -- The operand that a kind and two numbers tell. An entry for each kind from 0 on, as operand's `operand_numbers` numbers them: each number is in
--- the range of its field, and a second one that is not there is 0. There is no operand of a higher kind.
-unfoldable pub told_operand : ℕ → ℕ → ℕ → Operand
+-- the range of its field, and a second one that is not there is 0. There is no operand of kind 0 or of a higher kind.
+unfoldable pub told_operand : ℕ → ℕ → ℕ → Option Operand
 told_operand kind a b =
     get_or
-    (Nothing
+    (None
     ∷ only (is_i32 a && eqb b 0) (Reg (to_z w64 a))
     ∷ only (is_i32 a && ltb b (2 ^ 32)) (RegList (to_z w64 a) b)
     ∷ only (eqb b 0) (Imm (to_z w64 a))
@@ -33,7 +33,7 @@ told_operand kind a b =
     ∷ only (ltb a (2 ^ 32) && eqb b 0) (IntrinsicId a)
     ∷ only (ltb a (2 ^ 8)) (Raw a b)
     ∷ [])
-    kind Nothing
+    kind None
 
 -- operand j of the eight: behind the first four numbers each has three
 abbrev pub told_at : List ℕ → ℕ → OperandRecord

@@ -4,9 +4,8 @@
 ghost use Rattle.std.specs.Prelude.{◌≡◌, ◌^◌, ◌<◌, true, ◌&&◌, eqb, ltb};
 ghost use Rattle.std.specs.Int.{w64};
 ghost use mir.Val.{to_z};
-ghost use Rattle.operand.specs.declared.Operand.TheVariants as operand;
 ghost use Rattle.numbers.specs.Told.{told64};
-ghost use Rattle.numbers.specs.Back.{is_i32, only, told_operand, told_at, told_from, told_scale, opcode_known, told_instr};
+ghost use Rattle.numbers.specs.Back.{is_i32, told_operand, told_at, told_from, told_scale, opcode_known, told_instr};
 ghost use Rattle.numbers.specs.mirror.Instr.{operand_in, operand_number, instr_number, NumbersAre};
 
 use decoder::{Instr, OperandRecord};
@@ -41,21 +40,24 @@ fn instr_number(instr: Instr, k: u8) -> u64
 }
 
 // The operand in place j of the eight.
-fn operand_in(instr: Instr, j: u8) -> Operand
+fn operand_in(instr: Instr, j: u8) -> Option<Operand>
     requires { j < 8 }
     ensures { result ≡ operand_in instr j }
 {
     instr.operands[j as usize].operand
 }
 
-// Number j of an operand: its kind, then two numbers.
-fn operand_number(op: Operand, j: u8) -> u64
+// Number j of a place: the kind of its operand, then two numbers; 0 where it has none.
+fn operand_number(op: Option<Operand>, j: u8) -> u64
     requires { j < 3 }
     ensures { result ≡ operand_number op j }
 {
+    let Some(op) = op else {
+        return 0;
+    };
     match j {
         0 => operand::kind_number(op) as u64,
-        1 => words::bits64(operand::first_number(op)),
+        1 => operand::first_number(op).cast_unsigned(),
         _ => operand::second_number(op),
     }
 }
@@ -64,12 +66,12 @@ fn operand_number(op: Operand, j: u8) -> u64
 pub fn bits_of(i: i32) -> u64
     ensures { result ≡ told64 i }
 {
-    words::bits64(words::wide(i))
+    i64::from(i).cast_unsigned()
 }
 
 // The way back.
 
-// The instruction that 28 numbers tell, at place 0: an operand that three of them do not tell is Nothing, a scale above 255 is 0.
+// The instruction that 28 numbers tell, at place 0: an operand that three of them do not tell is none, a scale above 255 is 0.
 #[tactic(auto, unfolding(crate::specs::Back::told_instr))]
 pub fn instr_of(numbers: &[u64; 28]) -> Instr
     ensures { result ≡ told_instr numbers.now }
@@ -98,17 +100,14 @@ pub fn opcode_known(numbers: &[u64; 28]) -> bool
 fn scale_of(n: u64) -> u8
     ensures { result ≡ told_scale n }
 {
-    if n < 256 { n as u8 } else { 0 }
+    u8::try_from(n).unwrap_or(0)
 }
 
 // The eight operands.
 fn operands_of(numbers: &[u64; 28]) -> [OperandRecord; 8]
     ensures { result ≡ told_from numbers.now 0 8 }
 {
-    let none = OperandRecord {
-        operand: Operand::Nothing,
-    };
-    let mut slots = [none; 8];
+    let mut slots = [OperandRecord { operand: None }; 8];
     for j in 0..8 {
         slots[j] = slot_of(numbers, j);
     }
@@ -121,126 +120,51 @@ fn slot_of(numbers: &[u64; 28], j: usize) -> OperandRecord
     ensures { result ≡ told_at numbers.now j }
 {
     let at = 4 + 3 * j;
-    let operand = operand_of(numbers[at], numbers[at + 1], numbers[at + 2]);
-    OperandRecord { operand }
+    OperandRecord {
+        operand: operand_of(numbers[at], numbers[at + 1], numbers[at + 2]),
+    }
 }
 
-// The operand that a kind and two numbers tell.
+// The operand that a kind and two numbers tell: each number is in the range of its field, and a second one that is not there is 0.
 #[tactic(auto, unfolding(crate::specs::Back::told_operand))]
-fn operand_of(kind: u64, a: u64, b: u64) -> Operand
+fn operand_of(kind: u64, a: u64, b: u64) -> Option<Operand>
     ensures { result ≡ told_operand kind a b }
 {
     match kind {
-        1 => reg_of(a, b),
-        2 => list_of(a, b),
-        3 => imm_of(a, b),
-        4 => idx_of(a, b),
-        5 => flag8_of(a, b),
-        6 => flag16_of(a, b),
-        7 => runtime_of(a, b),
-        8 => intrinsic_of(a, b),
-        9 => raw_of(a, b),
-        _ => Operand::Nothing,
-    }
-}
-
-fn reg_of(a: u64, b: u64) -> Operand
-    ensures { result ≡ only (is_i32 a && eqb b 0) (operand.Reg (to_z w64 a)) }
-{
-    if is_i32(a) && b == 0 {
-        Operand::Reg(narrow(a))
-    } else {
-        Operand::Nothing
-    }
-}
-
-fn list_of(a: u64, b: u64) -> Operand
-    ensures { result ≡ only (is_i32 a && ltb b (2 ^ 32)) (operand.RegList (to_z w64 a) b) }
-{
-    if is_i32(a) && b < 4294967296 {
-        Operand::RegList {
+        1 if is_reg(a, b) => Some(Operand::Reg(narrow(a))),
+        2 if is_reg_list(a, b) => Some(Operand::RegList {
             first: narrow(a),
             count: b as u32,
-        }
-    } else {
-        Operand::Nothing
-    }
-}
-
-fn imm_of(a: u64, b: u64) -> Operand
-    ensures { result ≡ only (eqb b 0) (operand.Imm (to_z w64 a)) }
-{
-    if b == 0 {
-        Operand::Imm(words::signed64(a))
-    } else {
-        Operand::Nothing
-    }
-}
-
-fn idx_of(a: u64, b: u64) -> Operand
-    ensures { result ≡ only (ltb a (2 ^ 32) && eqb b 0) (operand.Idx a) }
-{
-    if is_one(a, 4294967296, b) {
-        Operand::Idx(a as u32)
-    } else {
-        Operand::Nothing
-    }
-}
-
-fn flag8_of(a: u64, b: u64) -> Operand
-    ensures { result ≡ only (ltb a (2 ^ 8) && eqb b 0) (operand.Flag8 a) }
-{
-    if is_one(a, 256, b) {
-        Operand::Flag8(a as u8)
-    } else {
-        Operand::Nothing
-    }
-}
-
-fn flag16_of(a: u64, b: u64) -> Operand
-    ensures { result ≡ only (ltb a (2 ^ 16) && eqb b 0) (operand.Flag16 a) }
-{
-    if is_one(a, 65536, b) {
-        Operand::Flag16(a as u16)
-    } else {
-        Operand::Nothing
-    }
-}
-
-fn runtime_of(a: u64, b: u64) -> Operand
-    ensures { result ≡ only (ltb a (2 ^ 32) && eqb b 0) (operand.RuntimeId a) }
-{
-    if is_one(a, 4294967296, b) {
-        Operand::RuntimeId(a as u32)
-    } else {
-        Operand::Nothing
-    }
-}
-
-fn intrinsic_of(a: u64, b: u64) -> Operand
-    ensures { result ≡ only (ltb a (2 ^ 32) && eqb b 0) (operand.IntrinsicId a) }
-{
-    if is_one(a, 4294967296, b) {
-        Operand::IntrinsicId(a as u32)
-    } else {
-        Operand::Nothing
-    }
-}
-
-fn raw_of(a: u64, b: u64) -> Operand
-    ensures { result ≡ only (ltb a (2 ^ 8)) (operand.Raw a b) }
-{
-    if a < 256 {
-        Operand::Raw {
+        }),
+        3 if b == 0 => Some(Operand::Imm(a.cast_signed())),
+        4 if is_one(a, 4294967296, b) => Some(Operand::Idx(a as u32)),
+        5 if is_one(a, 256, b) => Some(Operand::Flag8(a as u8)),
+        6 if is_one(a, 65536, b) => Some(Operand::Flag16(a as u16)),
+        7 if is_one(a, 4294967296, b) => Some(Operand::RuntimeId(a as u32)),
+        8 if is_one(a, 4294967296, b) => Some(Operand::IntrinsicId(a as u32)),
+        9 if a < 256 => Some(Operand::Raw {
             ty: a as u8,
             value: b,
-        }
-    } else {
-        Operand::Nothing
+        }),
+        _ => None,
     }
 }
 
-// Whether the one number of an operand is below a limit, and the second 0.
+// Whether two numbers are a register, and 0.
+fn is_reg(a: u64, b: u64) -> bool
+    ensures { result ≡ (is_i32 a && eqb b 0) }
+{
+    is_i32(a) && b == 0
+}
+
+// Whether they are a list's first register, and its count.
+fn is_reg_list(a: u64, b: u64) -> bool
+    ensures { result ≡ (is_i32 a && ltb b (2 ^ 32)) }
+{
+    is_i32(a) && b < 4294967296
+}
+
+// Whether they are one below a limit, and 0.
 fn is_one(a: u64, limit: u64, b: u64) -> bool
     ensures { result ≡ (ltb a limit && eqb b 0) }
 {
@@ -259,5 +183,5 @@ fn is_i32(a: u64) -> bool
 fn narrow(a: u64) -> i32
     ensures { is_i32 a ≡ true → result ≡ to_z w64 a }
 {
-    words::signed32((a % 4294967296) as u32)
+    ((a % 4294967296) as u32).cast_signed()
 }

@@ -5,66 +5,84 @@ ghost use Rattle.std.specs.Prelude.{◌≡◌, ◌<◌, length};
 ghost use Rattle.prefix.specs.Head.{op_at, behind, head_at};
 
 use refusal::{Fault, Refusal};
+use tables::Prefixes;
 
-// The opcode at a place, behind any prefix.
+// The opcode at a place, behind any prefix, and where its operands begin.
 #[derive(Clone, Copy)]
-pub enum Head {
-    End,
-    Refused(Refusal),
-    Op { opcode: u8, scale: u8, at: usize },
+pub struct Head {
+    pub opcode: u8,
+    pub scale: u8,
+    pub at: usize,
 }
 
-// The opcode at a place; ops is the number of opcodes, wide and extra are the opcodes of the prefixes.
+// The opcode at a place, none at the end of the code; ops is the number of opcodes.
 #[tactic(auto, unfolding(crate::specs::Head::head_at))]
-pub fn head_at(code: &[u8], ops: usize, start: usize, wide: usize, extra: usize) -> Head
-    ensures { result ≡ head_at code.now ops start wide extra }
+pub fn head_at(
+    code: &[u8],
+    ops: usize,
+    start: usize,
+    prefixes: Prefixes,
+) -> Result<Option<Head>, Refusal>
+    ensures { result ≡ head_at code.now ops start prefixes }
 {
     if code.len() < start {
-        return Head::Refused(Refusal {
+        return Err(Refusal {
             fault: Fault::BeyondCode,
             place: start,
         });
     }
     if start == code.len() {
-        return Head::End;
+        return Ok(None);
     }
-    let prefix = words::byte_at(code, start) as usize;
-    if prefix == wide {
+    let prefix = words::byte_at(code, start);
+    if prefixes.wide == Some(prefix) {
         return behind_prefix(code, ops, start, Fault::EndsAfterWide, 2);
     }
-    if prefix == extra {
+    if prefixes.extra_wide == Some(prefix) {
         return behind_prefix(code, ops, start, Fault::EndsAfterExtraWide, 4);
     }
     op_at(code, ops, start, 1, start)
 }
 
 // The opcode at place at, if a record has it; ops is the number of opcodes.
-fn op_at(code: &[u8], ops: usize, start: usize, scale: u8, at: usize) -> Head
+fn op_at(
+    code: &[u8],
+    ops: usize,
+    start: usize,
+    scale: u8,
+    at: usize,
+) -> Result<Option<Head>, Refusal>
     requires { at < length code.now }
     ensures { result ≡ op_at code.now ops start scale at }
 {
     let opcode = words::byte_at(code, at);
     if ops <= opcode as usize {
-        return Head::Refused(Refusal {
+        return Err(Refusal {
             fault: Fault::NoOpcode,
             place: start,
         });
     }
-    Head::Op {
+    Ok(Some(Head {
         opcode,
         scale,
         at: at + 1,
-    }
+    }))
 }
 
 // The opcode behind a prefix at start; fault is what is refused where the code ends there.
-fn behind_prefix(code: &[u8], ops: usize, start: usize, fault: Fault, scale: u8) -> Head
+fn behind_prefix(
+    code: &[u8],
+    ops: usize,
+    start: usize,
+    fault: Fault,
+    scale: u8,
+) -> Result<Option<Head>, Refusal>
     requires { start < length code.now }
     ensures { result ≡ behind code.now ops start fault scale }
 {
     let next = start + 1;
     if next == code.len() {
-        return Head::Refused(Refusal {
+        return Err(Refusal {
             fault,
             place: start,
         });

@@ -12,7 +12,7 @@ ghost use Rattle.program.specs.Printed.{refusal_text, within_limit, limited, sho
 use refusal::{Fault, Refusal};
 use walk::Walked;
 
-// The line `refused 14 at 1`.
+// The line `refused 14 at 1`, by hand: the contract tells each byte, which `Display` cannot.
 fn put_refusal(out: &mut [u8], at: usize, r: Refusal) -> usize
     ensures { Put out.old at (refusal_text r) out.new result }
 {

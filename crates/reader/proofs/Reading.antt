@@ -1,54 +1,38 @@
--- Where a reader finds a slot and moves, and where it is at the end and stays. Assumes nothing.
-use Prim.Native.Nat.{ℕ, ◌+◌, ◌<◌, ◌≤◌}
-use mathlib.Core.Path.{◌≡◌, refl, sym, ◌∙◌}
-use mathlib.Core.Bool.{Bool, true, false, cond}
-use mathlib.Core.List.{List}
+-- A reader yields the slots one after the other, each whole record once. Assumes nothing.
+use Prim.Native.Nat.{ℕ, suc, ◌+◌, ◌-◌, ◌<◌, ◌≤◌}
+use mathlib.Core.Path.{◌≡◌, refl, ap}
+use mathlib.Core.List.{List, [], ◌∷◌}
 use native.Mathlib.Omega.{arith}
-use borrow.Author.Tests.{ltb-true, ltb-false, lt-ltb, le-ltb}
-use lib.Dec.{ltb}
+use native.Mathlib.Decide.{dec_le}
+use borrow.Author.Tests.{lt-ltb, le-ltb}
+use lib.ListN.{length}
+use Rattle.std.specs.Prelude.{Option, Some, None, MatchOption, ⊤}
+use Rattle.std.specs.Iterator.{YieldsFirst, item_count, MakesProgress}
+use Rattle.std.proofs.lemmas.List.FromFn.{length-map-range_with_len}
 use Rattle.store.specs.Records.{slot_of, slot_count}
 use Rattle.store.specs.declared.Slot.{Slot}
-use Rattle.reader.specs.Reading.{read_at, next_at}
+use Rattle.reader.specs.Reading.{read_at, next_at, slots_from}
 use Rattle.reader.specs.Numbers.{read_numbers}
 use Rattle.reader.proofs.Numbers.{read_numbers_one}
-use Rattle.reader.specs.declared.Stepped.{Stepped}
-use Rattle.std.specs.Prelude.{Some, None}
 
-module _ (s : List ℕ) (at : ℕ) where
-  found_below : {x : Slot} → read_at s at ≡ Some x → at < slot_count s
-  unfolding read_at
-  found_below {x} h = go (ltb at (slot_count s)) refl h
-    where
-      go : (t : Bool) → ltb at (slot_count s) ≡ t → cond t (Some (slot_of s at)) None ≡ Some x → at < slot_count s
-      go true e f = ltb-true at (slot_count s) e
-      go false e f = let z : ◌≡◌ {A = ℕ} 0 1 = cc in absurd (omega arith)
+pub slots_left : (s : List ℕ) (at : ℕ) → length (slots_from s at) ≡ slot_count s - at
+unfolding slots_from
+slots_left s at = length-map-range_with_len (slot_of s) at (slot_count s - at)
 
-  end_from : read_at s at ≡ None → slot_count s ≤ at
-  unfolding read_at
-  end_from h = go (ltb at (slot_count s)) refl h
-    where
-      go : (t : Bool) → ltb at (slot_count s) ≡ t → cond t (Some (slot_of s at)) None ≡ None → slot_count s ≤ at
-      go true e f = let z : ◌≡◌ {A = ℕ} 0 1 = cc in absurd (omega arith)
-      go false e f = ltb-false at (slot_count s) e
+-- the slot at the cursor, and those behind it; or the end
+pub slots_yield : (s : List ℕ) (at t : ℕ) (r : Option Slot) → read_numbers at r ≡ read_numbers at (read_at s at) → t ≡ next_at s at
+    → MatchOption r ((slots_from s at ≡ []) × (slots_from s t ≡ [])) (λ x. slots_from s at ≡ x ∷ slots_from s t)
+unfolding read_at next_at slots_from
+slots_yield s at t r e f = rw (read_numbers_one at r (read_at s at) e, f) (go (dec_le (slot_count s) at))
+  where
+    go : Dec (slot_count s ≤ at) → MatchOption (read_at s at) ((slots_from s at ≡ []) × (slots_from s (next_at s at) ≡ [])) (λ x. slots_from s at ≡ x ∷ slots_from s (next_at s at))
+    go (yes l) = let n : slot_count s - at ≡ 0 = omega arith in rw (le-ltb _ _ l, n) (refl, refl)
+    go (no m) =
+        let l : at < slot_count s = omega arith in
+        let n : slot_count s - at ≡ suc (slot_count s - (at + 1)) = omega arith in
+        rw (lt-ltb _ _ l, n)
 
-  moves : at < slot_count s → next_at s at ≡ at + 1
-  unfolding next_at
-  moves h = rw (lt-ltb _ _ h)
-
-  stays : slot_count s ≤ at → next_at s at ≡ at
-  unfolding next_at
-  stays h = rw (le-ltb _ _ h)
-
-  module _ (r : Stepped) (e : (read_numbers at r.read ≡ read_numbers at (read_at s at)) × (r.at ≡ next_at s at)) where
-    reads : r.read ≡ read_at s at
-    reads = read_numbers_one at r.read (read_at s at) e.0
-
-    pub found_moves : {x : Slot} → r.read ≡ Some x → (at < slot_count s) × (r.at ≡ at + 1)
-    found_moves h =
-        let b = found_below (sym reads ∙ h) in
-        (b, e.1 ∙ moves b)
-
-    pub end_stays : r.read ≡ None → (slot_count s ≤ at) × (r.at ≡ at)
-    end_stays h =
-        let b = end_from (sym reads ∙ h) in
-        (b, e.1 ∙ stays b)
+-- with each slot fewer are left
+pub fewer_left : {S A : Type 0} (rest : S → List A) (s t : S) (r : Option A) → YieldsFirst rest s r t → MakesProgress (λ _. ⊤) (item_count rest) s r t
+fewer_left rest s t (Some x) h = record { on = λ _. (tt, tt, omega (arith, ap length h)); keeps = tt; rests = λ _. tt }
+fewer_left rest s t None h = record { on = λ _. tt; keeps = tt; rests = λ _. tt }

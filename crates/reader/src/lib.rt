@@ -1,10 +1,11 @@
-// A slot reader: a struct that keeps the lent slot records and a cursor, over plain functions. The work is in `read_at` and
-// `next_at`; `read_step` is a step of a reader that is not kept.
+// A slot reader: the lent slot records and a cursor, an iterator over the slots. The work is in `read_at` and `next_at`; `read_step`
+// is a step of a reader that is not kept.
 #![tactic(auto)]
 
 ghost use Rattle.std.specs.Prelude.{◌≡◌};
+ghost use Rattle.std.specs.Iterator.{YieldsFirst, item_count};
 ghost use Rattle.store.specs.Records.{slot_count};
-ghost use Rattle.reader.specs.Reading.{read_at, next_at};
+ghost use Rattle.reader.specs.Reading.{read_at, next_at, slots_from};
 ghost use Rattle.reader.specs.Numbers.{read_numbers};
 
 use store::Slot;
@@ -52,20 +53,28 @@ pub fn read_step(slots: &[u8], at: usize) -> Stepped
     Stepped { read, at: r.at }
 }
 
-// How many slots a reader finds, one after the other from record 0 to the end.
-pub fn slots_read(slots: &[u8]) -> usize
-    ensures { result ≡ slot_count slots.now }
-{
-    let mut at = 0;
-    loop {
-        let step = read_step(slots, at);
-        let Some(_) = step.read else {
-            return at;
-        };
-        at = step.at;
+// The slots from the cursor on, one after the other.
+impl<'a> Iterator for SlotReader<'a> {
+    type Item = Slot;
+
+    ghost next_gives = { YieldsFirst (λ s. slots_from s.slots.now s.at) };
+
+    ghost remaining = { item_count (λ s. slots_from s.slots.now s.at) };
+
+    fn next(&mut self) -> Option<Slot> {
+        next(self)
     }
 }
 
+// How many slots a reader finds, one after the other from record 0 to the end.
+#[tactic(auto, using(crate::proofs::Reading::slots_left))]
+pub fn slots_read(slots: &[u8]) -> usize
+    ensures { result ≡ slot_count slots.now }
+{
+    new(slots, 0).count()
+}
+
+#[tactic(auto, unfolding(crate::specs::Reading::read_at))]
 fn read_at(slots: &[u8], at: usize) -> Option<Slot>
     ensures { result ≡ read_at slots.now at }
 {
@@ -76,6 +85,7 @@ fn read_at(slots: &[u8], at: usize) -> Option<Slot>
     }
 }
 
+#[tactic(auto, unfolding(crate::specs::Reading::next_at))]
 fn next_at(slots: &[u8], at: usize) -> usize
     ensures { result ≡ next_at slots.now at }
 {

@@ -8,11 +8,12 @@ use Rattle.operand.specs.declared.Operand.{Operand}
 use Rattle.operand.specs.declared.Operand.TheVariants.{Reg, RegList, Imm}
 use Rattle.decoder.specs.declared.OperandRecord.{OperandRecord}
 use Rattle.decoder.specs.declared.Instr.{Instr}
+use Rattle.decoder.specs.Decode.{record_of}
 use Rattle.registers.specs.Registers.{with_operands, max_register}
 use Rattle.std.specs.Prelude.{Some, None}
 
 abbrev of : Operand → OperandRecord
-of x = record { operand = x }
+of o = record_of (Some o)
 
 abbrev instr : ℕ → List OperandRecord → Instr
 instr count xs = record { offset = 0; opcode = 0; scale = 1; end = 0; count = count; operands = xs }

@@ -2,7 +2,7 @@
 use Rattle.std.specs.Prelude.{ℕ, zero, suc, max, min, List, [], ◌∷◌, ℤ, pos, negsuc, take}
 use Rattle.words.specs.Signed.{list_last}
 use Rattle.operand.specs.declared.Operand.{Operand}
-use Rattle.operand.specs.declared.Operand.TheVariants.{Nothing, Reg, RegList, Imm, Idx, Flag8, Flag16, RuntimeId, IntrinsicId, Raw}
+use Rattle.operand.specs.declared.Operand.TheVariants.{Reg, RegList, Imm, Idx, Flag8, Flag16, RuntimeId, IntrinsicId, Raw}
 use Rattle.decoder.specs.declared.OperandRecord.{OperandRecord}
 use Rattle.decoder.specs.declared.Instr.{Instr}
 use Rattle.std.specs.Prelude.{Option, Some, None}
@@ -23,7 +23,6 @@ list_end first zero = first
 list_end first (suc n) = list_last first (suc n)
 
 abbrev pub with_operand : Option ℕ → Operand → Option ℕ
-with_operand best Nothing = best
 with_operand best (Reg index) = with_register best index
 with_operand best (RegList first count) = with_register best (list_end first count)
 with_operand best (Imm v) = best
@@ -34,9 +33,13 @@ with_operand best (RuntimeId v) = best
 with_operand best (IntrinsicId v) = best
 with_operand best (Raw t v) = best
 
+abbrev pub with_place : Option ℕ → Option Operand → Option ℕ
+with_place best (Some o) = with_operand best o
+with_place best None = best
+
 unfoldable pub with_operands : Option ℕ → List OperandRecord → Option ℕ
 with_operands best [] = best
-with_operands best (x ∷ xs) = with_operands (with_operand best x.operand) xs
+with_operands best (x ∷ xs) = with_operands (with_place best x.operand) xs
 
 -- an instruction's operands are the first count of the eight
 abbrev pub with_instr : Option ℕ → Instr → Option ℕ

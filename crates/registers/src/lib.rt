@@ -23,10 +23,10 @@ pub fn max_register(instrs: &[Instr]) -> Option<u32>
 fn with_register(best: Option<u32>, index: i32) -> Option<u32>
     ensures { result ≡ with_register best index }
 {
-    if words::is_negative(words::wide(index)) {
+    if index < 0 {
         return best;
     }
-    let n = words::bits32(index);
+    let n = index.cast_unsigned();
     match best {
         Some(m) => Some(m.max(n)),
         None => Some(n),
@@ -56,7 +56,9 @@ fn with_instr(best: Option<u32>, x: Instr) -> Option<u32>
 {
     let mut b = best;
     for i in 0..x.count.min(8) {
-        b = with_operand(b, x.operands[i].operand);
+        if let Some(operand) = x.operands[i].operand {
+            b = with_operand(b, operand);
+        }
     }
     b
 }

@@ -1,14 +1,15 @@
 // Numbers in slots, and headers.
 use header::Header;
-use vectors::items::{Files, behind, file};
+use vectors::calls::File;
+use vectors::items::{Files, behind, contents};
 use vectors::said;
 
 // 4: a small integer in a slot.
 pub fn smi_slot(bytes: &[u8], files: Files, call: &[u8]) -> bool {
     let answer = header::smi_slot(
-        file(bytes, files, 5),
-        file(bytes, files, 6),
-        file(bytes, files, 7),
+        contents(bytes, files, File::Objects),
+        contents(bytes, files, File::Slots),
+        contents(bytes, files, File::Payload),
         tagged_size(bytes, files),
         words::u64_at(call, 0) as usize,
         words::u64_at(call, 8),
@@ -21,7 +22,7 @@ pub fn smi_slot(bytes: &[u8], files: Files, call: &[u8]) -> bool {
 
 fn is_smi(said: &[u8], smi: Option<i64>) -> bool {
     match smi {
-        Some(v) => said::is_number(said, words::bits64(v)),
+        Some(v) => said::is_numbers(said, &[v.cast_unsigned()]),
         None => said::is_nothing(said),
     }
 }
@@ -29,9 +30,9 @@ fn is_smi(said: &[u8], smi: Option<i64>) -> bool {
 // 5: a number in a slot.
 pub fn num_field(bytes: &[u8], files: Files, call: &[u8]) -> bool {
     let answer = header::num_field(
-        file(bytes, files, 5),
-        file(bytes, files, 6),
-        file(bytes, files, 7),
+        contents(bytes, files, File::Objects),
+        contents(bytes, files, File::Slots),
+        contents(bytes, files, File::Payload),
         tagged_size(bytes, files),
         words::u64_at(call, 0) as usize,
         words::u64_at(call, 8),
@@ -45,7 +46,7 @@ pub fn num_field(bytes: &[u8], files: Files, call: &[u8]) -> bool {
 
 fn is_num(said: &[u8], num: Option<u32>) -> bool {
     match num {
-        Some(n) => said::is_number(said, n as u64),
+        Some(n) => said::is_numbers(said, &[n as u64]),
         None => said::is_nothing(said),
     }
 }
@@ -53,10 +54,10 @@ fn is_num(said: &[u8], num: Option<u32>) -> bool {
 // 23: the header of an object.
 pub fn header(bytes: &[u8], files: Files, call: &[u8]) -> bool {
     let answer = header::header_at(
-        file(bytes, files, 5),
-        file(bytes, files, 6),
-        file(bytes, files, 7),
-        file(bytes, files, 4),
+        contents(bytes, files, File::Objects),
+        contents(bytes, files, File::Slots),
+        contents(bytes, files, File::Payload),
+        contents(bytes, files, File::Layout),
         words::u64_at(call, 0) as usize,
     );
     match answer {
@@ -67,20 +68,20 @@ pub fn header(bytes: &[u8], files: Files, call: &[u8]) -> bool {
 
 // Length, parameter count, register count, frame size, nesting level, age, and where in the payload the code is.
 fn is_header(said: &[u8], header: Header) -> bool {
-    let parameters = words::bits64(words::wide(header.parameter_count));
-    said::has_form(said, 1, 65)
-        && said::are_2(said, 1, header.length as u64, parameters)
-        && said::are_2(
-            said,
-            17,
-            header.register_count as u64,
-            header.frame_size as u64,
-        )
-        && said::are_2(said, 33, header.osr as u64, header.age as u64)
-        && said::are_2(said, 49, header.code_at as u64, header.code_len as u64)
+    let numbers = [
+        u64::from(header.length),
+        i64::from(header.parameter_count).cast_unsigned(),
+        u64::from(header.register_count),
+        u64::from(header.frame_size),
+        u64::from(header.osr),
+        u64::from(header.age),
+        header.code_at as u64,
+        header.code_len as u64,
+    ];
+    said::is_numbers(said, &numbers)
 }
 
 fn tagged_size(bytes: &[u8], files: Files) -> u8 {
-    let layout = tables::layout_of(file(bytes, files, 4));
+    let layout = tables::layout_of(contents(bytes, files, File::Layout));
     layout.tagged_size
 }

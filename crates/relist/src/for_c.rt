@@ -1,10 +1,11 @@
 // The calls for C that list an object, and that answer a target or an entry of lent code.
-use vectors::items::{Files, behind, file};
-use vectors::said;
+use vectors::calls::File;
+use vectors::items::{Files, behind, contents};
+use vectors::said::{self, Status};
 
-// No file is longer than a program reads.
+// No record file is longer than a program reads.
 pub fn is_short(files: Files) -> bool {
-    files.len[..8].iter().all(|&n| n <= 65536)
+    files.parts[..8].iter().all(|part| part.len <= 65536)
 }
 
 // 0: with 65,536 bytes lent.
@@ -23,14 +24,14 @@ fn list_in(bytes: &[u8], files: Files, said: &[u8], out: &mut [u8]) -> bool {
     let mut place: usize = 7;
     let status = capi::jscd_list(
         out,
-        file(bytes, files, 0),
-        file(bytes, files, 1),
-        file(bytes, files, 2),
-        file(bytes, files, 3),
-        file(bytes, files, 4),
-        file(bytes, files, 5),
-        file(bytes, files, 6),
-        file(bytes, files, 7),
+        contents(bytes, files, File::Opcodes),
+        contents(bytes, files, File::Types),
+        contents(bytes, files, File::Runtime),
+        contents(bytes, files, File::Intrinsic),
+        contents(bytes, files, File::Layout),
+        contents(bytes, files, File::Objects),
+        contents(bytes, files, File::Slots),
+        contents(bytes, files, File::Payload),
         0,
         &mut place,
     );
@@ -46,7 +47,7 @@ fn is_told(said: &[u8], status: u8, place: usize, out: &[u8]) -> bool {
 }
 
 // In place of an object's number: no store and no pool.
-const NO_OBJECT: u64 = 18446744073709551615;
+const NO_OBJECT: u64 = u64::MAX;
 
 // Whether an object is lent.
 fn lent_of(object: u64) -> u8 {
@@ -60,32 +61,33 @@ pub fn target(bytes: &[u8], files: Files, call: &[u8]) -> bool {
     let mut place: usize = 7;
     let mut values = [7u64; 2];
     let status = capi::jscd_target(
-        file(bytes, files, 8),
+        contents(bytes, files, File::Code),
         at,
-        file(bytes, files, 0),
-        file(bytes, files, 1),
-        file(bytes, files, 4),
-        file(bytes, files, 5),
-        file(bytes, files, 6),
-        file(bytes, files, 7),
+        contents(bytes, files, File::Opcodes),
+        contents(bytes, files, File::Types),
+        contents(bytes, files, File::Layout),
+        contents(bytes, files, File::Objects),
+        contents(bytes, files, File::Slots),
+        contents(bytes, files, File::Payload),
         lent_of(object),
         object as usize,
         &mut place,
         &mut values,
     );
     let said = behind(call, 16);
-    match status {
-        0 => place == 0 && is_target(said, values[0], values[1]),
-        255 => place == at && said::is_end(said),
-        _ => said::is_refused_by(said, status, place),
+    match Status::try_from(status) {
+        Ok(Status::Done) => place == 0 && is_target(said, values),
+        Ok(Status::CodeEnd) => place == at && said::is_end(said),
+        Err(number) => said::is_refused_by(said, number, place),
+        Ok(Status::Leaves) => false,
     }
 }
 
-fn is_target(said: &[u8], found: u64, target: u64) -> bool {
-    if found == 1 {
-        said::is_number(said, target)
-    } else {
-        found == 0 && target == 0 && said::is_nothing(said)
+fn is_target(said: &[u8], values: [u64; 2]) -> bool {
+    match values {
+        [1, target] => said::is_numbers(said, &[target]),
+        [0, 0] => said::is_nothing(said),
+        _ => false,
     }
 }
 
@@ -96,14 +98,14 @@ pub fn entry(bytes: &[u8], files: Files, call: &[u8]) -> bool {
     let mut place: usize = 7;
     let mut values = [7u64; 3];
     let status = capi::jscd_entry(
-        file(bytes, files, 8),
+        contents(bytes, files, File::Code),
         at,
-        file(bytes, files, 0),
-        file(bytes, files, 1),
-        file(bytes, files, 4),
-        file(bytes, files, 5),
-        file(bytes, files, 6),
-        file(bytes, files, 7),
+        contents(bytes, files, File::Opcodes),
+        contents(bytes, files, File::Types),
+        contents(bytes, files, File::Layout),
+        contents(bytes, files, File::Objects),
+        contents(bytes, files, File::Slots),
+        contents(bytes, files, File::Payload),
         lent_of(object),
         object as usize,
         words::u64_at(call, 16) as usize,
@@ -111,18 +113,20 @@ pub fn entry(bytes: &[u8], files: Files, call: &[u8]) -> bool {
         &mut values,
     );
     let said = behind(call, 24);
-    match status {
-        0 => place == 0 && is_entry(said, values[0], values[1], values[2]),
-        255 => place == at && said::is_end(said),
-        _ => said::is_refused_by(said, status, place),
+    match Status::try_from(status) {
+        Ok(Status::Done) => place == 0 && is_entry(said, values),
+        Ok(Status::CodeEnd) => place == at && said::is_end(said),
+        Err(number) => said::is_refused_by(said, number, place),
+        Ok(Status::Leaves) => false,
     }
 }
 
-fn is_entry(said: &[u8], kind: u64, case: u64, target: u64) -> bool {
-    match kind {
-        1 => said::is_numbers_3(said, 0, case, target),
-        2 => said::is_number(said, 1),
-        3 => said::is_number(said, 2),
-        _ => kind == 0 && said::is_nothing(said),
+fn is_entry(said: &[u8], values: [u64; 3]) -> bool {
+    match values {
+        [1, case, target] => said::is_numbers(said, &[0, case, target]),
+        [2, _, _] => said::is_numbers(said, &[1]),
+        [3, _, _] => said::is_numbers(said, &[2]),
+        [0, _, _] => said::is_nothing(said),
+        _ => false,
     }
 }

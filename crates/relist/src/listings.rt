@@ -1,5 +1,6 @@
 // Whole listings of object 0.
-use vectors::items::{Files, Part, file, lent};
+use vectors::calls::File;
+use vectors::items::{Files, Part, contents, lent};
 use vectors::said;
 
 // 0: what the program prints, in a buffer as long as the program's.
@@ -39,14 +40,14 @@ fn is_refusal_line_in(said: &[u8], out: &[u8], n: usize, line: &mut [u8]) -> boo
 pub fn list(bytes: &[u8], files: Files, out: &mut [u8; 65536]) -> usize {
     program::list_text(
         out,
-        file(bytes, files, 0),
-        file(bytes, files, 1),
-        file(bytes, files, 2),
-        file(bytes, files, 3),
-        file(bytes, files, 4),
-        file(bytes, files, 5),
-        file(bytes, files, 6),
-        file(bytes, files, 7),
+        contents(bytes, files, File::Opcodes),
+        contents(bytes, files, File::Types),
+        contents(bytes, files, File::Runtime),
+        contents(bytes, files, File::Intrinsic),
+        contents(bytes, files, File::Layout),
+        contents(bytes, files, File::Objects),
+        contents(bytes, files, File::Slots),
+        contents(bytes, files, File::Payload),
     )
 }
 
@@ -59,14 +60,14 @@ pub fn long_listing(bytes: &[u8], files: Files, call: &[u8]) -> bool {
 fn long_listing_in(bytes: &[u8], files: Files, call: &[u8], out: &mut [u8]) -> bool {
     let listed = disasm::list(
         out,
-        file(bytes, files, 0),
-        file(bytes, files, 1),
-        file(bytes, files, 2),
-        file(bytes, files, 3),
-        file(bytes, files, 4),
-        file(bytes, files, 5),
-        file(bytes, files, 6),
-        file(bytes, files, 7),
+        contents(bytes, files, File::Opcodes),
+        contents(bytes, files, File::Types),
+        contents(bytes, files, File::Runtime),
+        contents(bytes, files, File::Intrinsic),
+        contents(bytes, files, File::Layout),
+        contents(bytes, files, File::Objects),
+        contents(bytes, files, File::Slots),
+        contents(bytes, files, File::Payload),
         0,
     );
     match listed {

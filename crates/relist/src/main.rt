@@ -7,49 +7,46 @@ mod for_c;
 mod listings;
 mod shown;
 
-use vectors::counts::{Counts, Outcome, counted, judged, no_counts, numbered, with_unknown};
-use vectors::items::{Files, Item, Items, Part, What, files_after, kind_of, lent, no_files};
-use vectors::lines::{Total, both, print_counts, print_total, print_wrong, read};
+use vectors::calls::Call;
+use vectors::counts::{
+    Counts, NO_TOTAL, Outcome, Total, counted, no_counts, numbered, with_unknown,
+};
+use vectors::items::{Files, Item, Items, Kind, Part, files_after, lent, no_files};
+use vectors::lines::{both, print_counts, print_total, print_wrong, read};
+
+// The recordings, and whether the listings of each are printed.
+const RECORDINGS: [(&str, bool); 9] = [
+    ("named.vec", true),
+    ("rows.vec", false),
+    ("list.vec", false),
+    ("jump.vec", false),
+    ("entry.vec", false),
+    ("header.vec", false),
+    ("layout.vec", false),
+    ("v8list.vec", false),
+    ("caches.vec", false),
+];
 
 fn main(rt: HostRuntime) {
-    let named = relist(&rt, b"named.vec", true);
-    let rows = relist(&rt, b"rows.vec", false);
-    let list = relist(&rt, b"list.vec", false);
-    let jump = relist(&rt, b"jump.vec", false);
-    let entry = relist(&rt, b"entry.vec", false);
-    let headers = both(
-        relist(&rt, b"header.vec", false),
-        relist(&rt, b"layout.vec", false),
-    );
-    let v8 = both(
-        relist(&rt, b"v8list.vec", false),
-        relist(&rt, b"caches.vec", false),
-    );
-    let lists = both(both(named, rows), both(list, v8));
-    print_total(&rt, both(lists, both(both(jump, entry), headers)));
-    print_wrong(&rt, relist(&rt, b"wrong.vec", false));
+    let mut total = NO_TOTAL;
+    for (name, shows) in RECORDINGS {
+        total = both(total, relist(&rt, name, shows));
+    }
+    print_total(&rt, total);
+    print_wrong(&rt, relist(&rt, "wrong.vec", false));
 }
 
 // A file, in a buffer that is longer than any of them; its listings are printed, or not.
-fn relist(rt: &(impl std::rt::Files + Print + Eprint), name: &[u8], shows: bool) -> Total {
+fn relist(rt: &(impl std::rt::Files + Print + Eprint), name: &str, shows: bool) -> Total {
     let mut buffer = [0u8; 1048576];
     relist_in(rt, name, shows, &mut buffer)
 }
 
 fn relist_in(
     rt: &(impl std::rt::Files + Print + Eprint),
-    name: &[u8],
+    name: &str,
     shows: bool,
     buffer: &mut [u8; 1048576],
-) -> Total {
-    relist_with(rt, name, shows, buffer)
-}
-
-fn relist_with(
-    rt: &(impl std::rt::Files + Print + Eprint),
-    name: &[u8],
-    shows: bool,
-    buffer: &mut [u8],
 ) -> Total {
     let len = read(rt, name, buffer);
     let whole = Part { at: 0, len };
@@ -70,46 +67,56 @@ fn ask_file(bytes: &[u8]) -> Counts {
 }
 
 fn counts_after(bytes: &[u8], files: Files, counts: Counts, item: Item) -> Counts {
-    let body = item.body;
-    match kind_of(item) {
-        What::Sets => counts,
-        What::Call(f) => counts_call(bytes, files, numbered(counts), f, body),
-        What::Unknown => with_unknown(counts),
+    match item.kind {
+        Some(Kind::Sets(_) | Kind::Names(_)) => counts,
+        Some(Kind::Call(call)) => counts_call(bytes, files, numbered(counts), call, item.body),
+        None => with_unknown(counts),
     }
 }
 
 // A listing, a target and an entry are asked of their calls for C too; a listing not where a file is longer than the listing program reads: then
 // the program alone refuses.
-fn counts_call(bytes: &[u8], files: Files, counts: Counts, f: u8, body: Part) -> Counts {
+fn counts_call(bytes: &[u8], files: Files, counts: Counts, asked: Call, body: Part) -> Counts {
     let call = lent(bytes, body);
-    let after = counted(counts, f, asked(bytes, files, f, call));
-    match f {
-        0 => {
-            if for_c::is_short(files) {
-                counted(after, 27, judged(for_c::list(bytes, files, call)))
-            } else {
-                after
-            }
+    let after = counted(counts, asked, answered(bytes, files, asked, call));
+    let (beside, same) = match asked {
+        Call::Listing if for_c::is_short(files) => {
+            (Call::JscdList, for_c::list(bytes, files, call))
         }
-        22 => counted(after, 27, judged(for_c::long_list(bytes, files, call))),
-        8 => counted(after, 33, judged(for_c::target(bytes, files, call))),
-        24 => counted(after, 34, judged(for_c::entry(bytes, files, call))),
-        _ => after,
-    }
+        Call::LongListing => (Call::JscdList, for_c::long_list(bytes, files, call)),
+        Call::JumpTarget => (Call::JscdTarget, for_c::target(bytes, files, call)),
+        Call::JumpEntry => (Call::JscdEntry, for_c::entry(bytes, files, call)),
+        _ => return after,
+    };
+    counted(after, beside, Outcome::from(same))
 }
 
-// Our own function f, on the same files.
-fn asked(bytes: &[u8], files: Files, f: u8, call: &[u8]) -> Outcome {
-    match f {
-        0 => judged(listings::listing(bytes, files, call)),
-        4 => judged(fields::smi_slot(bytes, files, call)),
-        5 => judged(fields::num_field(bytes, files, call)),
-        8 => judged(entries::jump_target(bytes, files, call)),
-        9 => judged(entries::jump_table(bytes, files, call)),
-        22 => judged(listings::long_listing(bytes, files, call)),
-        23 => judged(fields::header(bytes, files, call)),
-        24 => judged(entries::jump_entry(bytes, files, call)),
-        1..=18 => Outcome::NotHere,
-        _ => Outcome::Differs,
-    }
+// Our own function, on the same files.
+fn answered(bytes: &[u8], files: Files, asked: Call, call: &[u8]) -> Outcome {
+    let same = match asked {
+        Call::Listing => listings::listing(bytes, files, call),
+        Call::SmiSlot => fields::smi_slot(bytes, files, call),
+        Call::NumField => fields::num_field(bytes, files, call),
+        Call::JumpTarget => entries::jump_target(bytes, files, call),
+        Call::JumpTable => entries::jump_table(bytes, files, call),
+        Call::LongListing => listings::long_listing(bytes, files, call),
+        Call::Header => fields::header(bytes, files, call),
+        Call::JumpEntry => entries::jump_entry(bytes, files, call),
+        Call::RawAt
+        | Call::ArrayLen
+        | Call::ArrayElem
+        | Call::BcaRtOff
+        | Call::DecodeSmiBytes
+        | Call::MaxRegister
+        | Call::RegName
+        | Call::RenderOperand
+        | Call::Decode
+        | Call::SlotAt
+        | Call::TableCheck
+        | Call::StoreCheck
+        | Call::InstructionText
+        | Call::LastBytes => return Outcome::NotHere,
+        _ => false,
+    };
+    Outcome::from(same)
 }

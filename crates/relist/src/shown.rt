@@ -1,26 +1,22 @@
 // Prints the listings of a vector file: what the listing program prints for the same files.
 use crate::listings;
-use vectors::items::{Files, Items, Part, files_after, lent, no_files};
+use vectors::calls::Call;
+use vectors::items::{Files, Items, Kind, Part, files_after, lent, no_files};
 
 pub fn show_file(rt: &impl Print, bytes: &[u8]) {
     let mut files = no_files();
     for item in Items::new(bytes) {
         files = files_after(bytes, files, item);
-        show_item(rt, bytes, files, item.kind);
+        if matches!(item.kind, Some(Kind::Call(Call::Listing))) {
+            show_listing(rt, bytes, files);
+        }
     }
 }
 
-// A call of function 0.
-fn show_item(rt: &impl Print, bytes: &[u8], files: Files, kind: u8) {
-    if kind == 32 {
-        let mut out = [0u8; 65536];
-        show_in(rt, bytes, files, &mut out);
-    }
-}
-
-fn show_in(rt: &impl Print, bytes: &[u8], files: Files, out: &mut [u8; 65536]) {
-    let n = listings::list(bytes, files, out);
-    print_text(rt, out, n);
+fn show_listing(rt: &impl Print, bytes: &[u8], files: Files) {
+    let mut out = [0u8; 65536];
+    let n = listings::list(bytes, files, &mut out);
+    print_text(rt, &out, n);
 }
 
 // The first n bytes, or, where they are many, how many.

@@ -1,32 +1,33 @@
 // The calls for C that decode and write one instruction, and that convert opcode files.
 use tables::Form;
-use vectors::counts::{Outcome, judged};
-use vectors::items::{Files, behind, file, first};
-use vectors::said;
+use vectors::calls::File;
+use vectors::items::{Files, behind, contents, first};
+use vectors::said::{self, Status};
 
 // 13: its status, its place and its 28 numbers.
-pub fn decode(bytes: &[u8], files: Files, call: &[u8]) -> Outcome {
+pub fn decode(bytes: &[u8], files: Files, call: &[u8]) -> bool {
     let mut place: usize = 7;
     let mut numbers = [7u64; 28];
     let start = words::u64_at(call, 0) as usize;
     let status = capi::jscd_decode(
-        file(bytes, files, 0),
-        file(bytes, files, 1),
-        file(bytes, files, 4),
-        file(bytes, files, 8),
+        contents(bytes, files, File::Opcodes),
+        contents(bytes, files, File::Types),
+        contents(bytes, files, File::Layout),
+        contents(bytes, files, File::Code),
         start,
         &mut place,
         &mut numbers,
     );
-    judged(is_told(behind(call, 8), start, status, place, numbers))
+    is_told(behind(call, 8), start, status, place, numbers)
 }
 
 // 0 is an instruction, 255 the end, any other status a refusal's number; without an instruction the numbers are as they were.
 fn is_told(said: &[u8], start: usize, status: u8, place: usize, numbers: [u64; 28]) -> bool {
-    match status {
-        0 => is_instr(said, place, numbers),
-        255 => said::is_end(said) && place == start && are_kept(numbers),
-        _ => { said::is_refused_by(said, status, place) && are_kept(numbers) }
+    match Status::try_from(status) {
+        Ok(Status::Done) => is_instr(said, place, numbers),
+        Ok(Status::CodeEnd) => said::is_end(said) && place == start && are_kept(numbers),
+        Err(number) => { said::is_refused_by(said, number, place) && are_kept(numbers) }
+        Ok(Status::Leaves) => false,
     }
 }
 
@@ -37,21 +38,14 @@ fn are_kept(numbers: [u64; 28]) -> bool {
 // The place is where the instruction ends.
 fn is_instr(said: &[u8], place: usize, numbers: [u64; 28]) -> bool {
     let count = words::u64_at(said, 25);
-    if 8 < count {
-        return false;
-    }
-    said::has_form(said, 1, 33 + 24 * count as usize)
+    count <= 8
+        && said::has_form(said, 1, 33 + 24 * count as usize)
         && words::u64_at(said, 17) == place as u64
         && are_numbers(said, count, numbers)
 }
 
 fn are_numbers(said: &[u8], count: u64, numbers: [u64; 28]) -> bool {
-    for k in 0..28u8 {
-        if numbers[k as usize] != number(said, count, k) {
-            return false;
-        }
-    }
-    true
+    (0..28u8).all(|k| numbers[k as usize] == number(said, count, k))
 }
 
 // Number k by what is recorded: opcode, scale, end, how many operands, then three numbers for each of them. For C an operand's kind is
@@ -63,18 +57,18 @@ fn number(said: &[u8], count: u64, k: u8) -> u64 {
     }
     let j = k - 4;
     if count <= (j / 3) as u64 {
-        return 0;
+        0
+    } else if j % 3 == 0 {
+        recorded.wrapping_add(1)
+    } else {
+        recorded
     }
-    if j % 3 == 0 {
-        return std::num::wrapping_add_u64(recorded, 1);
-    }
-    recorded
 }
 
 // 26: the bytes of an instruction, into a buffer of the recorded length.
-pub fn write(bytes: &[u8], files: Files, call: &[u8]) -> Outcome {
+pub fn write(bytes: &[u8], files: Files, call: &[u8]) -> bool {
     let mut out = [7u8; 200];
-    judged(write_in(bytes, files, call, &mut out))
+    write_in(bytes, files, call, &mut out)
 }
 
 fn write_in(bytes: &[u8], files: Files, call: &[u8], out: &mut [u8]) -> bool {
@@ -87,9 +81,9 @@ fn is_written(bytes: &[u8], files: Files, call: &[u8], out: &mut [u8]) -> bool {
     let numbers = numbers_of(call);
     let status = capi::jscd_write(
         out,
-        file(bytes, files, 0),
-        file(bytes, files, 1),
-        file(bytes, files, 4),
+        contents(bytes, files, File::Opcodes),
+        contents(bytes, files, File::Types),
+        contents(bytes, files, File::Layout),
         &numbers,
         &mut place,
     );
@@ -97,9 +91,9 @@ fn is_written(bytes: &[u8], files: Files, call: &[u8], out: &mut [u8]) -> bool {
 }
 
 // 29 and 30: an opcode file in the other form, into a buffer of the recorded length.
-pub fn converted(bytes: &[u8], files: Files, call: &[u8], to: Form) -> Outcome {
+pub fn converted(bytes: &[u8], files: Files, call: &[u8], to: Form) -> bool {
     let mut out = [7u8; 18496];
-    judged(converted_in(bytes, files, call, to, &mut out))
+    converted_in(bytes, files, call, to, &mut out)
 }
 
 fn converted_in(bytes: &[u8], files: Files, call: &[u8], to: Form, out: &mut [u8]) -> bool {
@@ -114,8 +108,8 @@ fn is_converted(bytes: &[u8], files: Files, call: &[u8], to: Form, out: &mut [u8
 }
 
 fn status_of(bytes: &[u8], files: Files, to: Form, out: &mut [u8], place: &mut usize) -> u8 {
-    let opcodes = file(bytes, files, 0);
-    let types = file(bytes, files, 1);
+    let opcodes = contents(bytes, files, File::Opcodes);
+    let types = contents(bytes, files, File::Types);
     match to {
         Form::New => capi::jscd_to_new(out, opcodes, types, place),
         Form::Old => capi::jscd_to_old(out, opcodes, types, place),

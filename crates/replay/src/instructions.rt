@@ -1,28 +1,17 @@
 // Calls on lent code: one instruction decoded, and its registers, operands and whole text.
-use decoder::{Decoded, Instr, Outcome};
+use decoder::Instr;
 use operand::Operand;
 use refusal::Refusal;
 use tables::Frame;
-use vectors::items::{Files, Part, behind, file, lent};
+use vectors::calls::File;
+use vectors::items::{Files, Part, behind, contents, lent};
+use vectors::runs::Runs;
 use vectors::said;
-
-// Record files by their numbers, and the code.
-const OPCODES: u8 = 0;
-
-const TYPES: u8 = 1;
-
-const RUNTIME: u8 = 2;
-
-const INTRINSIC: u8 = 3;
-
-const LAYOUT: u8 = 4;
-
-const CODE: u8 = 8;
 
 // 13: the instruction at a place.
 pub fn decode(bytes: &[u8], files: Files, call: &[u8]) -> bool {
     let start = words::u64_at(call, 0) as usize;
-    let code = file(bytes, files, CODE);
+    let code = contents(bytes, files, File::Code);
     is_decoded(behind(call, 8), start, instr_of(bytes, files, code, start))
 }
 
@@ -39,33 +28,27 @@ fn reg_name_in(bytes: &[u8], files: Files, call: &[u8], out: &mut [u8]) -> bool 
     said::is_text(behind(call, 16), out, n)
 }
 
+// What decoding answers: an instruction, none at the code's end, or a refusal.
+type Decoded = Result<Option<Instr>, Refusal>;
+
 // 12: an operand as text.
 pub fn render_operand(bytes: &[u8], files: Files, call: &[u8]) -> bool {
     let said = behind(call, 24);
-    match checked(bytes, files) {
+    match checked_instr(bytes, files, call) {
+        Ok(Some(instr)) => is_operand_of(bytes, files, call, instr),
+        Ok(None) => said::is_end(said),
         Err(refusal) => said::is_refused(said, refusal),
-        Ok(()) => {
-            let start = words::u64_at(call, 0) as usize;
-            let code = file(bytes, files, CODE);
-            is_operand_of(bytes, files, call, instr_of(bytes, files, code, start))
-        }
     }
 }
 
-fn is_operand_of(bytes: &[u8], files: Files, call: &[u8], decoded: Decoded) -> bool {
-    let said = behind(call, 24);
-    let outcome = decoded.outcome;
-    match outcome {
-        Outcome::End => said::is_end(said),
-        Outcome::Refused(refusal) => said::is_refused(said, refusal),
-        Outcome::Done => {
-            let instr = decoded.instr;
-            let k = words::u64_at(call, 8) as usize;
-            if instr.count <= k {
-                return said::is_nothing(said);
-            }
-            is_written(bytes, files, call, operand_of(instr, k))
-        }
+fn is_operand_of(bytes: &[u8], files: Files, call: &[u8], instr: Instr) -> bool {
+    let k = words::u64_at(call, 8) as usize;
+    if instr.count <= k {
+        return said::is_nothing(behind(call, 24));
+    }
+    match operand_of(instr, k) {
+        Some(op) => is_written(bytes, files, call, op),
+        None => false,
     }
 }
 
@@ -82,26 +65,10 @@ fn is_written_in(bytes: &[u8], files: Files, call: &[u8], op: Operand, out: &mut
 // 17: name and operands as text.
 pub fn instruction_text(bytes: &[u8], files: Files, call: &[u8]) -> bool {
     let said = behind(call, 16);
-    match checked(bytes, files) {
+    match checked_instr(bytes, files, call) {
+        Ok(Some(instr)) => is_instr_text(bytes, files, call, instr),
+        Ok(None) => said::is_end(said),
         Err(refusal) => said::is_refused(said, refusal),
-        Ok(()) => {
-            let start = words::u64_at(call, 0) as usize;
-            let code = file(bytes, files, CODE);
-            is_text_of(bytes, files, call, instr_of(bytes, files, code, start))
-        }
-    }
-}
-
-fn is_text_of(bytes: &[u8], files: Files, call: &[u8], decoded: Decoded) -> bool {
-    let said = behind(call, 16);
-    let outcome = decoded.outcome;
-    match outcome {
-        Outcome::End => said::is_end(said),
-        Outcome::Refused(refusal) => said::is_refused(said, refusal),
-        Outcome::Done => {
-            let instr = decoded.instr;
-            is_instr_text(bytes, files, call, instr)
-        }
     }
 }
 
@@ -111,7 +78,7 @@ fn is_instr_text(bytes: &[u8], files: Files, call: &[u8], instr: Instr) -> bool 
 }
 
 fn is_instr_text_in(bytes: &[u8], files: Files, call: &[u8], instr: Instr, out: &mut [u8]) -> bool {
-    let opcodes = file(bytes, files, OPCODES);
+    let opcodes = contents(bytes, files, File::Opcodes);
     let at = bytecode::instr_name(out, 0, opcodes, instr.opcode, instr.scale);
     let n = put_operands(out, at, bytes, files, number32(call, 8), instr);
     said::is_text(behind(call, 16), out, n)
@@ -129,7 +96,9 @@ fn put_operands(
     let mut p = at;
     for k in 0..instr.count {
         p = put_between(out, p, k);
-        p = put_operand(out, p, bytes, files, params, operand_of(instr, k));
+        if let Some(op) = operand_of(instr, k) {
+            p = put_operand(out, p, bytes, files, params, op);
+        }
     }
     p
 }
@@ -150,79 +119,33 @@ fn put_operand(
     params: i32,
     op: Operand,
 ) -> usize {
-    let types = file(bytes, files, TYPES);
-    let runtime = file(bytes, files, RUNTIME);
-    let intrinsic = file(bytes, files, INTRINSIC);
+    let types = contents(bytes, files, File::Types);
+    let runtime = contents(bytes, files, File::Runtime);
+    let intrinsic = contents(bytes, files, File::Intrinsic);
     let frame = frame_of(bytes, files);
     bytecode::render_operand(out, at, types, runtime, intrinsic, frame, params, op)
 }
 
 // 18: the instruction in the code with one byte more, for each byte, against runs of equal answers.
 pub fn last_bytes(bytes: &[u8], files: Files, call: &[u8]) -> bool {
-    let code = file(bytes, files, CODE);
-    if 7 < code.len() {
-        return false;
-    }
-    if words::byte_at(call, 8) != 1 {
-        return false;
-    }
+    let code = contents(bytes, files, File::Code);
     let start = words::u64_at(call, 0) as usize;
-    are_decoded(bytes, files, start, behind(call, 9))
+    code.len() <= 7
+        && words::byte_at(call, 8) == 1
+        && are_decoded(bytes, files, start, Runs::new(behind(call, 9)))
 }
 
-// The answer said now, how often it is said again, and where the next run is.
-#[derive(Clone, Copy)]
-struct Run {
-    said: Part,
-    left: u16,
-    next: usize,
-}
-
-fn are_decoded(bytes: &[u8], files: Files, start: usize, runs: &[u8]) -> bool {
-    let mut run = no_run();
+fn are_decoded(bytes: &[u8], files: Files, start: usize, mut runs: Runs) -> bool {
     for b in 0..=255u8 {
-        run = run_after(runs, run);
-        let said = lent(runs, run.said);
-        if !is_decoded(said, start, decode_with(bytes, files, start, b)) {
+        let decoded = decode_with(bytes, files, start, b);
+        let Some(said) = runs.next() else {
+            return false;
+        };
+        if !is_decoded(said, start, decoded) {
             return false;
         }
     }
-    run.left == 0 && run.next == runs.len()
-}
-
-fn no_run() -> Run {
-    let said = Part { at: 0, len: 0 };
-    Run {
-        said,
-        left: 0,
-        next: 0,
-    }
-}
-
-// How many, the length of what is said, and that.
-fn run_after(runs: &[u8], run: Run) -> Run {
-    let said = run.said;
-    let next = run.next;
-    if 0 < run.left {
-        return Run {
-            said,
-            left: run.left - 1,
-            next,
-        };
-    }
-    let head = behind(runs, next);
-    let at = text::saturating_add(next, 4);
-    let len = words::u16_at(head, 2) as usize;
-    let said = Part { at, len };
-    Run {
-        said,
-        left: one_less(words::u16_at(head, 0)),
-        next: text::saturating_add(at, len),
-    }
-}
-
-fn one_less(n: u16) -> u16 {
-    if 0 < n { n - 1 } else { 0 }
+    runs.is_done()
 }
 
 // The instruction in the code with byte b behind it.
@@ -232,7 +155,7 @@ fn decode_with(bytes: &[u8], files: Files, start: usize, b: u8) -> Decoded {
 }
 
 fn decode_with_in(bytes: &[u8], files: Files, start: usize, b: u8, code: &mut [u8]) -> Decoded {
-    let at = text::put_bytes(code, 0, file(bytes, files, CODE));
+    let at = text::put_bytes(code, 0, contents(bytes, files, File::Code));
     let len = text::put_byte(code, at, b);
     let whole = Part { at: 0, len };
     instr_of(bytes, files, lent(code, whole), start)
@@ -242,54 +165,54 @@ fn decode_with_in(bytes: &[u8], files: Files, start: usize, b: u8, code: &mut [u
 
 // The instruction at a place of some code.
 fn instr_of(bytes: &[u8], files: Files, code: &[u8], start: usize) -> Decoded {
-    let opcodes = file(bytes, files, OPCODES);
-    let types = file(bytes, files, TYPES);
-    let layout = file(bytes, files, LAYOUT);
+    let opcodes = contents(bytes, files, File::Opcodes);
+    let types = contents(bytes, files, File::Types);
+    let layout = contents(bytes, files, File::Layout);
     bytecode::decode(opcodes, types, layout, code, start)
+}
+
+// The instruction at the place that a call begins with, after the check of all five table files.
+fn checked_instr(bytes: &[u8], files: Files, call: &[u8]) -> Decoded {
+    checked(bytes, files)?;
+    let start = words::u64_at(call, 0) as usize;
+    instr_of(bytes, files, contents(bytes, files, File::Code), start)
 }
 
 // The check of all five table files.
 fn checked(bytes: &[u8], files: Files) -> Result<(), Refusal> {
-    let opcodes = file(bytes, files, OPCODES);
-    let types = file(bytes, files, TYPES);
-    let runtime = file(bytes, files, RUNTIME);
-    let intrinsic = file(bytes, files, INTRINSIC);
-    let layout = file(bytes, files, LAYOUT);
+    let opcodes = contents(bytes, files, File::Opcodes);
+    let types = contents(bytes, files, File::Types);
+    let runtime = contents(bytes, files, File::Runtime);
+    let intrinsic = contents(bytes, files, File::Intrinsic);
+    let layout = contents(bytes, files, File::Layout);
     tables::check_table(opcodes, types, runtime, intrinsic, layout)
 }
 
 fn frame_of(bytes: &[u8], files: Files) -> Frame {
-    let layout = tables::layout_of(file(bytes, files, LAYOUT));
+    let layout = tables::layout_of(contents(bytes, files, File::Layout));
     layout.frame
 }
 
 // A signed argument of 32 bits.
 fn number32(call: &[u8], at: u8) -> i32 {
-    words::signed32(words::u32_at(call, at as usize))
+    words::u32_at(call, usize::from(at)).cast_signed()
 }
 
 // Operand k of an instruction.
-fn operand_of(instr: Instr, k: usize) -> Operand {
-    if 8 <= k {
-        return Operand::Nothing;
+fn operand_of(instr: Instr, k: usize) -> Option<Operand> {
+    if k < 8 {
+        instr.operands[k].operand
+    } else {
+        None
     }
-    let op = instr.operands[k];
-    op.operand
 }
 
 // The recorded instruction, refusal or end.
 fn is_decoded(said: &[u8], start: usize, decoded: Decoded) -> bool {
-    let outcome = decoded.outcome;
-    match outcome {
-        Outcome::End => said::is_end(said),
-        Outcome::Refused(refusal) => said::is_refused(said, refusal),
-        Outcome::Done => {
-            let instr = decoded.instr;
-            if instr.offset != start {
-                return false;
-            }
-            is_instr(said, instr)
-        }
+    match decoded {
+        Ok(Some(instr)) => instr.offset == start && is_instr(said, instr),
+        Ok(None) => said::is_end(said),
+        Err(refusal) => said::is_refused(said, refusal),
     }
 }
 
@@ -298,44 +221,35 @@ fn is_instr(said: &[u8], instr: Instr) -> bool {
     if 8 < instr.count {
         return false;
     }
+    let head = [
+        u64::from(instr.opcode),
+        u64::from(instr.scale),
+        instr.end as u64,
+        instr.count as u64,
+    ];
     let n = instr.count as u8;
-    if !is_head(said, instr.opcode, instr.scale, instr.end as u64, n) {
-        return false;
-    }
-    for k in 0..n {
-        if !is_operand(said, 33 + 24 * k as usize, operand_of(instr, k as usize)) {
-            return false;
-        }
-    }
-    true
+    said::has_form(said, 1, 33 + 24 * n as usize)
+        && said::are_numbers(said, 1, &head)
+        && (0..n).all(|k| is_operand(said, 33 + 24 * k as usize, operand_of(instr, k as usize)))
 }
 
-// Status 1 and the first four numbers of an instruction, and as many more as n operands have.
-fn is_head(said: &[u8], opcode: u8, scale: u8, end: u64, n: u8) -> bool {
-    if !said::has_form(said, 1, 33 + 24 * n as usize) {
-        return false;
-    }
-    if !said::are_2(said, 1, opcode as u64, scale as u64) {
-        return false;
-    }
-    said::are_2(said, 17, end, n as u64)
+fn is_operand(said: &[u8], at: usize, op: Option<Operand>) -> bool {
+    op.is_some_and(|op| said::are_numbers(said, at, &numbers_of(op)))
 }
 
-fn is_operand(said: &[u8], at: usize, op: Operand) -> bool {
+// Its kind, then two numbers.
+fn numbers_of(op: Operand) -> [u64; 3] {
     match op {
-        Operand::Nothing => false,
-        Operand::Reg(i) => said::are_3(said, at, 0, bits(i), 0),
-        Operand::RegList { first, count } => said::are_3(said, at, 1, bits(first), count as u64),
-        Operand::Imm(v) => said::are_3(said, at, 2, words::bits64(v), 0),
-        Operand::Idx(v) => said::are_3(said, at, 3, v as u64, 0),
-        Operand::Flag8(v) => said::are_3(said, at, 4, v as u64, 0),
-        Operand::Flag16(v) => said::are_3(said, at, 5, v as u64, 0),
-        Operand::RuntimeId(v) => said::are_3(said, at, 6, v as u64, 0),
-        Operand::IntrinsicId(v) => said::are_3(said, at, 7, v as u64, 0),
-        Operand::Raw { ty, value } => said::are_3(said, at, 8, ty as u64, value),
+        Operand::Reg(i) => [0, i64::from(i).cast_unsigned(), 0],
+        Operand::RegList { first, count } => {
+            [1, i64::from(first).cast_unsigned(), u64::from(count)]
+        }
+        Operand::Imm(v) => [2, v.cast_unsigned(), 0],
+        Operand::Idx(v) => [3, u64::from(v), 0],
+        Operand::Flag8(v) => [4, u64::from(v), 0],
+        Operand::Flag16(v) => [5, u64::from(v), 0],
+        Operand::RuntimeId(v) => [6, u64::from(v), 0],
+        Operand::IntrinsicId(v) => [7, u64::from(v), 0],
+        Operand::Raw { ty, value } => [8, u64::from(ty), value],
     }
-}
-
-fn bits(x: i32) -> u64 {
-    words::bits64(words::wide(x))
 }

@@ -1,6 +1,7 @@
 // Slots: the one that is found at an index, and all records of a store in order.
 use store::{Inner, Repeat, Slot, SlotValue};
-use vectors::items::{Files, behind, file};
+use vectors::calls::File;
+use vectors::items::{Files, behind, contents};
 use vectors::said;
 
 // A slot's value as it is recorded.
@@ -17,9 +18,9 @@ struct Told {
 pub fn slot_at(bytes: &[u8], files: Files, call: &[u8]) -> bool {
     let said = behind(call, 16);
     let answer = serializer::slot_at(
-        file(bytes, files, 5),
-        file(bytes, files, 6),
-        file(bytes, files, 7),
+        contents(bytes, files, File::Objects),
+        contents(bytes, files, File::Slots),
+        contents(bytes, files, File::Payload),
         words::u64_at(call, 0) as usize,
         words::u64_at(call, 8),
     );
@@ -31,14 +32,14 @@ pub fn slot_at(bytes: &[u8], files: Files, call: &[u8]) -> bool {
 }
 
 fn is_value(said: &[u8], t: Told) -> bool {
-    said::is_numbers_5(said, t.kind, t.number, t.len, t.count, t.inner)
+    said::is_numbers(said, &[t.kind, t.number, t.len, t.count, t.inner])
 }
 
 // 25: the records of a good store, by the slot reader.
 pub fn slot_records(bytes: &[u8], files: Files, said: &[u8]) -> bool {
-    let objects = file(bytes, files, 5);
-    let slots = file(bytes, files, 6);
-    match store::check_store(objects, slots, file(bytes, files, 7)) {
+    let objects = contents(bytes, files, File::Objects);
+    let slots = contents(bytes, files, File::Slots);
+    match store::check_store(objects, slots, contents(bytes, files, File::Payload)) {
         Ok(()) => words::byte_at(said, 0) == 1 && are_records(slots, behind(said, 1)),
         Err(refusal) => said::is_refused(said, refusal),
     }
@@ -81,13 +82,11 @@ fn is_found(records: &[u8], at: usize, read: Option<Slot>) -> bool {
 fn is_record(records: &[u8], at: usize, slot: Slot) -> bool {
     let value = slot.value;
     let t = value_told(value);
-    said::are_3(records, at, slot.index as u64, t.kind, t.number)
-        && said::are_3(
+    said::are_numbers(records, at, &[slot.index as u64, t.kind, t.number])
+        && said::are_numbers(
             records,
             text::saturating_add(at, 24),
-            t.len,
-            t.count,
-            t.inner,
+            &[t.len, t.count, t.inner],
         )
 }
 

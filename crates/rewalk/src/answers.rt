@@ -34,7 +34,7 @@ fn is_closed(said: &[u8]) -> bool {
 fn is_left(said: &[u8], steps: u64, offset: u64) -> bool {
     words::byte_at(said, 0) == 1
         && words::u64_at(said, 1) == 1
-        && said::are_2(said, 9, steps, offset)
+        && said::are_numbers(said, 9, &[steps, offset])
 }
 
 // The first n marks are the bits, the bits behind them are 0, and the other marks are kept.

@@ -8,77 +8,50 @@ mod tries;
 mod walks;
 
 use tries::{Tries, no_tries, tries_after};
+use vectors::calls::{Call, File};
 use vectors::counts::{
-    Counts, Outcome, UNKNOWN, counted, judged, no_counts, numbered, with_codes, with_unknown,
+    Counts, NO_TOTAL, Outcome, Total, counted, no_counts, numbered, unasked, with_codes,
+    with_unknown,
 };
-use vectors::items::{Files, Item, Items, Part, What, files_after, kind_of, lent, no_files};
-use vectors::lines::{Total, both, print_counts, print_total, print_wrong, read};
+use vectors::items::{Files, Item, Items, Kind, Part, contents, files_after, lent, no_files};
+use vectors::lines::{both, print_counts, print_total, print_wrong, read};
+
+// The recordings, and whether the named walks of each are printed; the last three have handler records.
+const RECORDINGS: [(&str, bool); 11] = [
+    ("walk-1.vec", true),
+    ("walk-2.vec", false),
+    ("walk-3.vec", false),
+    ("walk-4.vec", false),
+    ("walk-5.vec", false),
+    ("walk-v8.vec", false),
+    ("walk-caches.vec", false),
+    ("walk-few.vec", false),
+    ("walk-handlers.vec", true),
+    ("walk-tries.vec", false),
+    ("walk-tries-v8.vec", false),
+];
 
 fn main(rt: HostRuntime) {
-    print_total(
-        &rt,
-        both(
-            walks_1(&rt),
-            both(walks_2(&rt), both(walks_3(&rt), walks_4(&rt))),
-        ),
-    );
-    print_wrong(&rt, rewalk(&rt, b"wrong.vec", false));
-}
-
-// The files, a few at a time.
-fn walks_1(rt: &(impl std::rt::Files + Print + Eprint)) -> Total {
-    let fixed = rewalk(rt, b"walk-1.vec", true);
-    let random = rewalk(rt, b"walk-2.vec", false);
-    both(fixed, random)
-}
-
-fn walks_2(rt: &(impl std::rt::Files + Print + Eprint)) -> Total {
-    let third = rewalk(rt, b"walk-3.vec", false);
-    let fourth = rewalk(rt, b"walk-4.vec", false);
-    let fifth = rewalk(rt, b"walk-5.vec", false);
-    both(third, both(fourth, fifth))
-}
-
-fn walks_3(rt: &(impl std::rt::Files + Print + Eprint)) -> Total {
-    let v8 = both(
-        rewalk(rt, b"walk-v8.vec", false),
-        rewalk(rt, b"walk-caches.vec", false),
-    );
-    let few = rewalk(rt, b"walk-few.vec", false);
-    both(v8, few)
-}
-
-// With handler records.
-fn walks_4(rt: &(impl std::rt::Files + Print + Eprint)) -> Total {
-    let handlers = rewalk(rt, b"walk-handlers.vec", true);
-    let v8 = both(
-        rewalk(rt, b"walk-tries.vec", false),
-        rewalk(rt, b"walk-tries-v8.vec", false),
-    );
-    both(handlers, v8)
+    let mut total = NO_TOTAL;
+    for (name, shows) in RECORDINGS {
+        total = both(total, rewalk(&rt, name, shows));
+    }
+    print_total(&rt, total);
+    print_wrong(&rt, rewalk(&rt, "wrong.vec", false));
 }
 
 // A file, in a buffer that is longer than any of them; its named walks are printed, or not.
-fn rewalk(rt: &(impl std::rt::Files + Print + Eprint), name: &[u8], shows: bool) -> Total {
+fn rewalk(rt: &(impl std::rt::Files + Print + Eprint), name: &str, shows: bool) -> Total {
     let mut buffer = [0u8; 1048576];
     rewalk_in(rt, name, shows, &mut buffer)
 }
 
+// Where it has functions with handlers it is said how many handlers are reached.
 fn rewalk_in(
     rt: &(impl std::rt::Files + Print + Eprint),
-    name: &[u8],
+    name: &str,
     shows: bool,
     buffer: &mut [u8; 1048576],
-) -> Total {
-    rewalk_with(rt, name, shows, buffer)
-}
-
-// Where it has functions with handlers it is said how many handlers are reached.
-fn rewalk_with(
-    rt: &(impl std::rt::Files + Print + Eprint),
-    name: &[u8],
-    shows: bool,
-    buffer: &mut [u8],
 ) -> Total {
     let len = read(rt, name, buffer);
     let whole = Part { at: 0, len };
@@ -116,93 +89,59 @@ fn counts_after(
     item: Item,
     shows: bool,
 ) -> Counts {
-    let body = item.body;
-    match kind_of(item) {
-        What::Sets => counts,
-        What::Call(f) => counts_call(
-            rt,
-            bytes,
-            files,
-            numbered(counts),
-            f,
-            lent(bytes, body),
-            shows,
-        ),
-        What::Unknown => with_unknown(counts),
+    let call = lent(bytes, item.body);
+    match item.kind {
+        Some(Kind::Sets(_) | Kind::Names(_)) => counts,
+        Some(Kind::Call(asked)) => {
+            counts_call(rt, bytes, files, numbered(counts), asked, call, shows)
+        }
+        None => with_unknown(counts),
     }
 }
 
-// Each walk is asked of its call for C too.
+// Each walk is asked of its call for C too; walks with handler records have rows of their own.
 fn counts_call(
     rt: &impl Print,
     bytes: &[u8],
     files: Files,
     counts: Counts,
-    f: u8,
+    asked: Call,
     call: &[u8],
     shows: bool,
 ) -> Counts {
-    let number = if shows { counts.number } else { 0 };
-    match f {
-        19 => {
-            let after = counted(
-                counts,
-                f,
-                judged(walks::of_object(rt, bytes, files, call, false, number)),
-            );
-            counted(after, 28, judged(walks::for_c(bytes, files, call, false)))
-        }
-        20 => {
-            let after = counted(
-                counts,
-                f,
-                judged(walks::of_code(rt, bytes, files, call, false, number)),
-            );
-            counted(
-                after,
-                32,
-                judged(walks::code_for_c(bytes, files, call, false)),
-            )
-        }
-        21 => {
-            let after = counted(counts, f, judged(each::last_bytes(bytes, files, call)));
-            with_codes(after, words::u32_at(call, 8) as u64 * 256)
-        }
-        _ => counts_with(rt, bytes, files, counts, f, call, number),
-    }
+    let number = shows.then_some(counts.number);
+    let with = Some(contents(bytes, files, File::Handlers));
+    let (same, beside, told) = match asked {
+        Call::Walk => (
+            walks::of_object(rt, bytes, files, call, None, number),
+            Call::JscdWalk,
+            walks::for_c(bytes, files, call, None),
+        ),
+        Call::WalkCode => (
+            walks::of_code(rt, bytes, files, call, None, number),
+            Call::JscdWalkCode,
+            walks::code_for_c(bytes, files, call, None),
+        ),
+        Call::WalkWith => (
+            walks::of_object(rt, bytes, files, call, with, number),
+            Call::JscdWalkWith,
+            walks::for_c(bytes, files, call, with),
+        ),
+        Call::WalkCodeWith => (
+            walks::of_code(rt, bytes, files, call, with, number),
+            Call::JscdWalkCodeWith,
+            walks::code_for_c(bytes, files, call, with),
+        ),
+        Call::WalkLastBytes => return counts_last_bytes(bytes, files, counts, call),
+        _ => return unasked(counts),
+    };
+    let after = counted(counts, asked, Outcome::from(same));
+    counted(after, beside, Outcome::from(told))
 }
 
-// The same with handler records, in rows of their own.
-fn counts_with(
-    rt: &impl Print,
-    bytes: &[u8],
-    files: Files,
-    counts: Counts,
-    f: u8,
-    call: &[u8],
-    number: u64,
-) -> Counts {
-    match f {
-        27 => {
-            let after = counted(
-                counts,
-                30,
-                judged(walks::of_object(rt, bytes, files, call, true, number)),
-            );
-            counted(after, 35, judged(walks::for_c(bytes, files, call, true)))
-        }
-        28 => {
-            let after = counted(
-                counts,
-                31,
-                judged(walks::of_code(rt, bytes, files, call, true, number)),
-            );
-            counted(
-                after,
-                36,
-                judged(walks::code_for_c(bytes, files, call, true)),
-            )
-        }
-        _ => counted(counts, UNKNOWN, Outcome::Differs),
-    }
+// Each call asks 256 codes for each prefix.
+fn counts_last_bytes(bytes: &[u8], files: Files, counts: Counts, call: &[u8]) -> Counts {
+    let same = each::last_bytes(bytes, files, call);
+    let after = counted(counts, Call::WalkLastBytes, Outcome::from(same));
+    with_codes(after, u64::from(words::u32_at(call, 8)) * 256)
 }

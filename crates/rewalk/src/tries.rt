@@ -2,7 +2,8 @@
 // real functions with V8's own handler tables each is closed, and each handler is reached.
 use crate::walks;
 use refusal::Refusal;
-use vectors::items::{Files, Item, What, file, kind_of};
+use vectors::calls::{Call, File};
+use vectors::items::{Files, Item, Kind, contents};
 use walk::Walked;
 
 // Functions, those that are closed, their records, and those of these whose handler has a mark.
@@ -23,44 +24,28 @@ pub fn no_tries() -> Tries {
     }
 }
 
-// Counts the functions of 27.
+// Counts the functions of the walks with records.
 pub fn tries_after(bytes: &[u8], files: Files, tries: Tries, item: Item) -> Tries {
-    match kind_of(item) {
-        What::Sets => tries,
-        What::Call(f) => {
-            if f == 27 {
-                with_function(bytes, files, tries)
-            } else {
-                tries
-            }
-        }
-        What::Unknown => tries,
+    match item.kind {
+        Some(Kind::Call(Call::WalkWith)) => with_function(bytes, files, tries),
+        _ => tries,
     }
 }
 
 fn with_function(bytes: &[u8], files: Files, tries: Tries) -> Tries {
     let mut marks = [7u8; 65536];
-    with_function_in(bytes, files, tries, &mut marks)
-}
-
-fn with_function_in(bytes: &[u8], files: Files, tries: Tries, marks: &mut [u8]) -> Tries {
-    let walked = walks::walk_object(bytes, files, true, marks);
-    let handlers = file(bytes, files, 9);
-    let n = reached(handlers, marks);
+    let handlers = contents(bytes, files, File::Handlers);
+    let walked = walks::walk_object(bytes, files, Some(handlers), &mut marks);
     Tries {
-        functions: std::num::wrapping_add_u64(tries.functions, 1),
-        closed: std::num::wrapping_add_u64(tries.closed, closed(walked)),
-        records: std::num::wrapping_add_u64(tries.records, (handlers.len() / 12) as u64),
-        reached: std::num::wrapping_add_u64(tries.reached, n),
+        functions: tries.functions.wrapping_add(1),
+        closed: tries.closed.wrapping_add(u64::from(is_closed(walked))),
+        records: tries.records.wrapping_add((handlers.len() / 12) as u64),
+        reached: tries.reached.wrapping_add(reached(handlers, &marks)),
     }
 }
 
-fn closed(walked: Result<Walked, Refusal>) -> u64 {
-    match walked {
-        Ok(Walked::Closed) => 1,
-        Ok(Walked::Leaves(_, _)) => 0,
-        Err(_) => 0,
-    }
+fn is_closed(walked: Result<Walked, Refusal>) -> bool {
+    matches!(walked, Ok(Walked::Closed))
 }
 
 // How many records have a mark at their handler.

@@ -152,14 +152,12 @@ fn lowest(
     f
 }
 
-// The lower of what was found and o.
+// The lower of what was found and o: `lower_of`, a step of `Lowest`, so a function of its own.
 fn lower(f: Option<usize>, o: u16) -> Option<usize>
     ensures { result ≡ lower_of f o }
 {
-    match f {
-        Some(p) => Some(p.min(o as usize)),
-        None => Some(o as usize),
-    }
+    let o = o as usize;
+    Some(f.map_or(o, |p| p.min(o)))
 }
 
 // Pushes where the queue's entries lo to hi go, of which none exits.

@@ -1,6 +1,6 @@
 -- Walks from the last slot downward. Assumes nothing.
 use Prim.Native.Nat.{ℕ, zero, suc, ◌+◌, ◌-◌, ◌<◌, ◌≤◌}
-use mathlib.Core.Path.{◌≡◌, refl, ◌∙◌}
+use mathlib.Core.Path.{◌≡◌, ◌∙◌}
 use mathlib.Core.List.{List}
 use native.Mathlib.Omega.{arith}
 use native.Mathlib.Nat.{not-suc-le-zero}
@@ -8,7 +8,7 @@ use native.Mathlib.Decide.{dec_le}
 use borrow.Author.Tests.{le-ltb}
 use Rattle.store.specs.Records.{slot_of}
 use Rattle.store.specs.declared.Slot.{Slot}
-use Rattle.serializer.specs.Down.{down, stopping, walk_down}
+use Rattle.serializer.specs.Down.{down, stopping}
 
 module _ {A : Type 0} (step : Slot → A → A) (none : A) (s : List ℕ) (first : ℕ) where
   -- the slot before k, and those below it
@@ -17,9 +17,10 @@ module _ {A : Type 0} (step : Slot → A → A) (none : A) (s : List ℕ) (first
   down_more zero h = absurd (not-suc-le-zero h)
   down_more (suc k) h = let e : suc k - 1 ≡ k = omega arith in rw e
 
-  pub down_none : down step none s first 0 ≡ none
+  -- no slot
+  pub down_none : (k : ℕ) → k ≡ 0 → down step none s first k ≡ none
   unfolding down
-  down_none = refl
+  down_none k e = rw e
 
   -- slots that are passed over change nothing
   pub down_skip : (r count : ℕ) → r ≤ count → ((k : ℕ) → r ≤ k → k < count → (below : A) → step (slot_of s (first + k)) below ≡ below)
@@ -31,11 +32,6 @@ module _ {A : Type 0} (step : Slot → A → A) (none : A) (s : List ℕ) (first
       go : (r ≤ k → down step none s first k ≡ down step none s first r) → Dec (r ≤ k) → down step none s first (suc k) ≡ down step none s first r
       go rest (yes l) = over k l (omega arith) (down step none s first k) ∙ rest l
       go rest (no n) = let e : r ≡ suc k = omega arith in rw e
-
--- the same for a walk that may stop
-pub walk_more : {A : Type 0} (look : Slot → A → A) (none : A) (s : List ℕ) (first want k : ℕ) → 0 < k
-    → walk_down look none s first want k ≡ stopping look none want (slot_of s (first + (k - 1))) (walk_down look none s first want (k - 1))
-walk_more look none s first want k h = down_more (stopping look none want) none s first k h
 
 -- a slot above the one sought does not stop the walk
 pub above_next : {A : Type 0} (look : Slot → A → A) (none : A) (want : ℕ) (slot : Slot) → want < slot.index → ((below : A) → look slot below ≡ below)

@@ -20,10 +20,6 @@ use Rattle.serializer.specs.Calls.{check_at}
 use Rattle.serializer.proofs.Checked.{check_store_lem, check_there}
 use Rattle.store.specs.declared.SlotValue.TheVariants as value
 
--- two answers are not one
-not_found : {P : Type 0} {a : ℕ} → None ≡ Some a → P
-not_found h = let z : ◌≡◌ {A = ℕ} 0 1 = cc in absurd (omega arith)
-
 -- a run that holds the field
 record Holds (v : SlotValue) (a len : ℕ) : Type 0 where
   run : Run
@@ -40,20 +36,20 @@ module _ (ts off len a : ℕ) where
           let q = leb-true (off + len) (index * ts + run.len) (and_right (leb (index * ts) off) (leb (off + len) (index * ts + run.len)) e) in
           let g : run.off + (off - index * ts) ≡ a = cc in
           omega arith
-      go false e f = not_found f
+      go false e f = cc
 
   in_value : (index : ℕ) (v : SlotValue) → raw_value v index ts off len ≡ Some a → Holds v a len
-  in_value index value.Other h = not_found h
-  in_value index (value.Object n) h = not_found h
-  in_value index value.Root h = not_found h
-  in_value index value.OtherRef h = not_found h
+  in_value index value.Other h = cc
+  in_value index (value.Object n) h = cc
+  in_value index value.Root h = cc
+  in_value index value.OtherRef h = cc
   in_value index (value.Raw run) h = record { run = run; is = refl; fits = in_run index run h }
-  in_value index (value.Repeat r) h = not_found h
+  in_value index (value.Repeat r) h = cc
 
   -- a field that is found is in a run of one of the k slots
   in_slots : (s : List ℕ) (first want k : ℕ) → walk_down (raw_look ts off len) None s first want k ≡ Some a → (i : ℕ) × (i < k) × Holds (slot_of s (first + i)).value a len
   unfolding down
-  in_slots s first want zero h = not_found h
+  in_slots s first want zero h = cc
   in_slots s first want (suc k) h = go (raw_value slot.value slot.index ts off len) refl (stops slot.index want) h (in_slots s first want k)
     where
       slot : Slot
@@ -64,7 +60,7 @@ module _ (ts off len a : ℕ) where
           → (walk_down (raw_look ts off len) None s first want k ≡ Some a → (i : ℕ) × (i < k) × Holds (slot_of s (first + i)).value a len)
           → (i : ℕ) × (i < suc k) × Holds (slot_of s (first + i)).value a len
       go (Some b) e t f rest = (k, omega arith, in_value slot.index slot.value (e ∙ f))
-      go None e true f rest = not_found f
+      go None e true f rest = cc
       go None e false f rest = let r = rest f in (r.0, omega (arith, r.1), r.2)
 
 pub raw_inside : (o s p : List ℕ) (k ts off len : ℕ) {a : ℕ} → check_at o s p k ≡ Ok tt → raw_at s (object_of o k).first (object_of o k).count ts off len ≡ Some a → a + len ≤ length p
@@ -82,4 +78,4 @@ raw_inside o s p k ts off len {a} ok h = go (raw_sought ts off len) h
         let r = in_slots ts off len a s first (off / ts) count f in
         let good = good_run o s p (check_store_lem o s p k ok) (first + r.0) (good_slot o s p (check_store_lem o s p k ok) k r.0 (check_there o s p k ok) r.1) r.2.is in
         omega (arith, r.2.fits, good)
-    go false f = not_found f
+    go false f = cc

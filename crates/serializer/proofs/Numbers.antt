@@ -63,15 +63,8 @@ len_back (Err r) = ap (λ (x : Refusal). Err x) (refusal_back r)
 pub len_numbers_one : (a b : Result ℕ Refusal) → len_numbers a ≡ len_numbers b → a ≡ b
 len_numbers_one = one_by len_numbers len_read len_back
 
-abbrev off_read : Numbers → Result ℕ Refusal
-off_read = refused_or Err (λ vs. Ok (count 0 vs))
-
-off_back : (a : Result ℕ Refusal) → off_read (off_numbers a) ≡ a
-off_back (Ok n) = refl
-off_back (Err r) = ap (λ (x : Refusal). Err x) (refusal_back r)
-
 pub off_numbers_one : (a b : Result ℕ Refusal) → off_numbers a ≡ off_numbers b → a ≡ b
-off_numbers_one = one_by off_numbers off_read off_back
+off_numbers_one = len_numbers_one
 
 -- ---- elements
 

@@ -42,5 +42,4 @@ elem_numbers (Ok e) = element_numbers e
 elem_numbers (Err r) = refusal_numbers r
 
 abbrev pub off_numbers : Result ℕ Refusal → Numbers
-off_numbers (Ok n) = answered (pos n ∷ [])
-off_numbers (Err r) = refusal_numbers r
+off_numbers = len_numbers

@@ -2,8 +2,14 @@
 ghost use Rattle.std.specs.Prelude.{◌≡◌, true, ◌+◌, ◌/◌, ◌≤◌, min};
 ghost use Rattle.serializer.specs.mirror.Blocks.{held, WindowOf, InWindow, Blocked};
 
-use crate::Window;
 use store::SlotValue;
+
+// The indices, from `from` on and below `to`, for which a walk downward passes a block of slots.
+#[derive(Clone, Copy)]
+struct Window {
+    from: u32,
+    to: u32,
+}
 
 // The window of block b at places 2b and 2b + 1, empty (0, 0) for blocks behind the 2,048th and where the array has at most 1,024
 // slots: an ordinary one costs only the room.

@@ -9,6 +9,7 @@ use crate::{Elem, Span};
 use store::SlotValue;
 
 // array_elem of an object's slots.
+#[tactic(auto, using(crate::proofs::Windows::no_blocks))]
 pub fn array_elem_unchecked(
     slots: &[u8],
     payload: &[u8],
@@ -24,7 +25,7 @@ pub fn array_elem_unchecked(
 }
 
 // The same by a summary of the slots, as `elem_blocks` makes it: for many elements of one array.
-#[tactic(auto, unfolding(crate::specs::mirror::Search::elem_searched))]
+#[tactic(auto, using(crate::proofs::Point::point_within), unfolding(crate::specs::mirror::Search::elem_searched))]
 pub fn array_elem_in(
     slots: &[u8],
     payload: &[u8],
@@ -49,6 +50,7 @@ pub fn array_elem_in(
 }
 
 // The walk from slot start downward, block by block.
+#[tactic(auto, using(crate::proofs::Down::down_none, crate::proofs::Windows::block_passed))]
 fn elem_down(
     slots: &[u8],
     payload: &[u8],
@@ -78,6 +80,7 @@ fn elem_down(
 }
 
 // The walk from slot hi downward to slot lo: what it finds, nothing where it stops, or that all these slots are passed over.
+#[tactic(auto, using(crate::proofs::Down::down_more))]
 fn block_down(
     slots: &[u8],
     payload: &[u8],

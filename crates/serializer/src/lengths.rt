@@ -3,9 +3,8 @@ ghost use Rattle.std.specs.Prelude.{◌≡◌, ◌+◌, ◌/◌, max, length};
 ghost use Rattle.serializer.specs.mirror.Search.{len_searched};
 ghost use Rattle.serializer.specs.Length.{room_for, agrees, plain_field, smi_field, plain_or, chosen};
 
-// Lengths.
-
 // array_len of an object and its slots.
+#[tactic(auto, unfolding(crate::specs::mirror::Search::len_searched))]
 pub fn array_len_unchecked(slots: &[u8], payload: &[u8], object: store::Object, ts: u8) -> u64
     ensures { result ≡ len_searched slots.now payload.now object ts }
 {
@@ -46,13 +45,14 @@ fn smi_field(payload: &[u8], ts: u8, field: Option<usize>) -> Option<i64>
 }
 
 // The length that the object's size, or its mark, decides for.
+#[tactic(auto, using(words::proofs::Signs::bits_64))]
 fn chosen(object: store::Object, ts: u8, plain: u32, tagged: Option<i64>) -> u64
     ensures { result ≡ chosen object ts plain tagged }
 {
     let Some(v) = tagged else {
         return plain_or(object, ts, plain, 0);
     };
-    let n = words::bits64(v);
+    let n = v.cast_unsigned();
     if agrees(object.byte_size, ts, n) {
         n
     } else {

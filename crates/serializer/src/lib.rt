@@ -12,7 +12,7 @@ mod runs;
 mod slots;
 
 ghost use Rattle.std.specs.Prelude.{◌≡◌, take, drop};
-ghost use Rattle.serializer.specs.Calls.{check_at, slot_call, raw_call, raw_part, len_call, elem_call, off_call};
+ghost use Rattle.serializer.specs.Calls.{check_at, slot_call, raw_call, raw_part, place_of, part_of, len_call, elem_call, off_call};
 ghost use Rattle.serializer.specs.Numbers.{slot_numbers, raw_numbers, len_numbers, elem_numbers, off_numbers};
 
 pub use blocks::elem_blocks;
@@ -25,7 +25,7 @@ pub use runs::raw_at_unchecked;
 pub use slots::slot_at_unchecked;
 use store::SlotValue;
 
-// Bytes of the payload.
+// Bytes of the payload: no Run of store, since they may start behind what 32 bits say.
 #[derive(Clone, Copy)]
 pub struct Span {
     pub at: usize,
@@ -42,17 +42,16 @@ pub enum Elem {
     Bytes(Span),
 }
 
-// Answers of the calls on a lent store.
-
-// The answer of raw_at, and the part of the payload that it tells of.
+// Where in the payload a field lies, and the bytes there.
 #[derive(Clone, Copy)]
 pub struct RawPart<'a> {
-    pub answer: Result<Option<usize>, Refusal>,
+    pub at: usize,
     pub part: &'a [u8],
 }
 
 // Calls on a lent store and an object number, with the checks of rows 6, 7 and 8.
 
+#[tactic(auto, using(crate::proofs::Called::slot_called), unfolding(crate::specs::Calls::slot_call))]
 pub fn slot_at(
     objects: &[u8],
     slots: &[u8],
@@ -68,8 +67,8 @@ pub fn slot_at(
     Ok(slots::slot_at_unchecked(slots, o.first, o.count, index))
 }
 
-// Where in the payload the len bytes from byte off of the object on are, nothing or a refusal, and the part of the payload that holds
-// them; it is empty where none does. `raw_run_at` answers the one half, `raw_part_at` the other.
+// Where in the payload the len bytes from byte off of the object on are, with these bytes; nothing, or a refusal. `raw_run_at` answers
+// the one half, `raw_part_at` the other.
 pub fn raw_at<'a>(
     objects: &[u8],
     slots: &[u8],
@@ -78,19 +77,22 @@ pub fn raw_at<'a>(
     object: usize,
     off: u64,
     len: u64,
-) -> RawPart<'a>
-    ensures { (raw_numbers result.answer
+) -> Result<Option<RawPart<'a>>, Refusal>
+    ensures { (raw_numbers (place_of result)
         ≡ raw_numbers (raw_call objects.now slots.now payload.now ts object off len))
-        × (result.part.now
+        × (part_of result
         ≡ raw_part payload.now
         (raw_call objects.now slots.now payload.now ts object off len) len) }
 {
-    let answer = raw_found(objects, slots, payload, ts, object, off, len);
-    let part = raw_lent(payload, answer, len);
-    RawPart { answer, part }
+    let found = raw_found(objects, slots, payload, ts, object, off, len)?;
+    let Some(at) = found else {
+        return Ok(None);
+    };
+    let part = lent(payload, at, len as usize);
+    Ok(Some(RawPart { at, part }))
 }
 
-// The answer of raw_at.
+// The place that raw_at answers.
 pub fn raw_run_at(
     objects: &[u8],
     slots: &[u8],
@@ -103,10 +105,11 @@ pub fn raw_run_at(
     ensures { raw_numbers result
         ≡ raw_numbers (raw_call objects.now slots.now payload.now ts object off len) }
 {
-    raw_at(objects, slots, payload, ts, object, off, len).answer
+    let found = raw_at(objects, slots, payload, ts, object, off, len)?;
+    Ok(found.map(|raw| raw.at))
 }
 
-// The part that raw_at lends.
+// The bytes that raw_at lends; none where it finds nothing, or refuses.
 pub fn raw_part_at<'a>(
     objects: &[u8],
     slots: &[u8],
@@ -120,9 +123,13 @@ pub fn raw_part_at<'a>(
         ≡ raw_part payload.now
         (raw_call objects.now slots.now payload.now ts object off len) len }
 {
-    raw_at(objects, slots, payload, ts, object, off, len).part
+    let Ok(Some(raw)) = raw_at(objects, slots, payload, ts, object, off, len) else {
+        return lent(payload, 0, 0);
+    };
+    raw.part
 }
 
+#[tactic(auto, using(crate::proofs::Called::raw_called), unfolding(crate::specs::Calls::raw_call))]
 fn raw_found(
     objects: &[u8],
     slots: &[u8],
@@ -139,15 +146,7 @@ fn raw_found(
     Ok(runs::raw_at_unchecked(slots, o.first, o.count, ts, off, len))
 }
 
-fn raw_lent<'a>(payload: &'a [u8], answer: Result<Option<usize>, Refusal>, len: u64) -> &'a [u8]
-    ensures { result.now ≡ raw_part payload.now answer len }
-{
-    let Ok(Some(at)) = answer else {
-        return lent(payload, 0, 0);
-    };
-    lent(payload, at, len as usize)
-}
-
+#[tactic(auto, using(crate::proofs::Called::len_called), unfolding(crate::specs::Calls::len_call))]
 pub fn array_len(
     objects: &[u8],
     slots: &[u8],
@@ -163,6 +162,7 @@ pub fn array_len(
     Ok(lengths::array_len_unchecked(slots, payload, o, ts))
 }
 
+#[tactic(auto, using(crate::proofs::Called::elem_called), unfolding(crate::specs::Calls::elem_call))]
 pub fn array_elem(
     objects: &[u8],
     slots: &[u8],
@@ -180,6 +180,7 @@ pub fn array_elem(
 }
 
 // unit is the table's slot_unit.
+#[tactic(auto, unfolding(crate::specs::Calls::off_call))]
 pub fn bca_rt_off(
     objects: &[u8],
     slots: &[u8],
@@ -197,7 +198,8 @@ pub fn bca_rt_off(
     Ok(offsets::bca_rt_off_unchecked(slots, o.first, o.count, ts, unit, off))
 }
 
-fn check_at(objects: &[u8], slots: &[u8], payload: &[u8], object: usize) -> Result<(), Refusal>
+// Rows 6, 7 and 8.
+pub fn check_at(objects: &[u8], slots: &[u8], payload: &[u8], object: usize) -> Result<(), Refusal>
     ensures { result ≡ check_at objects.now slots.now payload.now object }
 {
     store::check_store(objects, slots, payload)?;
@@ -211,14 +213,3 @@ pub fn lent<'a>(s: &'a [u8], at: usize, n: usize) -> &'a [u8]
     let rest = &s[at.min(s.len())..];
     &rest[..n.min(rest.len())]
 }
-
-// Elements.
-
-// The indices, from `from` on and below `to`, for which a walk downward passes a block of slots.
-#[derive(Clone, Copy)]
-struct Window {
-    from: u32,
-    to: u32,
-}
-
-// Offsets.

@@ -19,6 +19,7 @@ pub fn bca_rt_off_unchecked(slots: &[u8], first: u32, count: u32, ts: u8, unit: 
 }
 
 // The last plain raw slot in stored order.
+#[tactic(auto, using(crate::proofs::Down::down_more, crate::proofs::Down::down_none))]
 fn raw_tail(slots: &[u8], first: u32, count: u32) -> Option<u32>
     ensures { result ≡ raw_tail slots.now first count }
 {

@@ -6,8 +6,6 @@ ghost use Rattle.serializer.specs.Field.{raw_run, raw_value, raw_look};
 
 use store::SlotValue;
 
-// Fields in raw runs.
-
 // raw_at of an object's slots: where in the payload the len bytes from byte off of the object on are.
 #[tactic(auto, unfolding(crate::specs::mirror::Search::raw_searched))]
 pub fn raw_at_unchecked(
@@ -35,6 +33,7 @@ pub fn raw_at_unchecked(
 }
 
 // The walk from slot start downward.
+#[tactic(auto, using(crate::proofs::Down::down_more, crate::proofs::Down::down_none))]
 fn raw_down(
     slots: &[u8],
     first: u32,

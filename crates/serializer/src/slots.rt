@@ -5,8 +5,6 @@ ghost use Rattle.serializer.specs.mirror.Search.{point_at, slot_searched};
 
 use store::SlotValue;
 
-// Slots by their index.
-
 // slot_at of an object's slots.
 #[tactic(auto, unfolding(crate::specs::mirror::Search::slot_searched))]
 pub fn slot_at_unchecked(slots: &[u8], first: u32, count: u32, index: u64) -> Option<SlotValue>
@@ -21,6 +19,7 @@ pub fn slot_at_unchecked(slots: &[u8], first: u32, count: u32, index: u64) -> Op
 }
 
 // How many of the slots have an index below the one given, where they are in order of their index.
+#[tactic(auto, using(crate::proofs::Point::reach_start, crate::proofs::Point::reach_up, crate::proofs::Point::reach_down))]
 pub(crate) fn partition_point(slots: &[u8], first: u32, count: u32, below: u64) -> u32
     ensures { result ≡ point_at slots.now first count below }
 {

@@ -3,7 +3,7 @@ use Prim.Native.Nat.{ℕ, suc, ◌+◌, ◌-◌, ◌≤◌, min}
 use mathlib.Core.Path.{◌≡◌, refl, sym, ap, subst, ◌∙◌}
 use mathlib.Core.Bool.{Bool, true, false, cond}
 use mathlib.Core.List.{List, [], ◌∷◌, map}
-use Rattle.std.specs.Prelude.{Option, None, Some}
+use Rattle.std.specs.Prelude.{Option, None, Some, Ok, Err}
 use native.Mathlib.Omega.{arith}
 use lib.Dec.{eqb, leb, ltb}
 use lib.ListN.{length, get_or}
@@ -14,12 +14,11 @@ use Rattle.refusal.specs.declared.Refusal.{Refusal}
 use Rattle.refusal.specs.Check.{refusal_at}
 use Rattle.graph.specs.Graph.{Step}
 use Rattle.graph.specs.Graph.Step.{to_offset}
-use Rattle.prefix.specs.declared.Head.{Head}
-use Rattle.prefix.specs.Head.{op_at, behind, head_at}
+use Rattle.prefix.specs.Head.{Begins, op_at, behind, head_at}
 use Rattle.decoder.specs.declared.Instr.{Instr}
-use Rattle.decoder.specs.declared.Outcome.{Outcome}
-use Rattle.decoder.specs.declared.Decoded.{Decoded}
-use Rattle.decoder.specs.Decode.{blank, Part, parts_from, operand_types, part_width, offset_of, operands_from, is_short, short_fault, instr_of, read_parts, decode_head, decode_at}
+use Rattle.tables.specs.Records.{is_op}
+use Rattle.tables.specs.declared.Prefixes.{Prefixes}
+use Rattle.decoder.specs.Decode.{Decoded, Done, instr_in, Part, parts_from, operand_types, part_width, offset_of, operands_from, is_short, short_fault, instr_of, read_parts, decode_head, decode_at}
 use Rattle.flow.specs.Opcodes.{Opcodes}
 use Rattle.handlers.specs.Handlers.{handler_among, handler_at}
 use Rattle.handlers.specs.mirror.Catches.{handler_word, catch_word, opcode_at}
@@ -32,18 +31,18 @@ use Rattle.steps.specs.Steps.{Source, to_handler, handler_steps}
 
 -- ---- the opcode of what was decoded
 -- the opcode at the head
-abbrev Has : ℕ → Head → Type 0
-Has op Head.End = Unit {0}
-Has op (Head.Refused r) = Unit {0}
-Has op (Head.Op opcode scale at) = opcode ≡ op
+abbrev Has : ℕ → Begins → Type 0
+Has op (Ok (Some h)) = h.opcode ≡ op
+Has op (Ok None) = Unit {0}
+Has op (Err r) = Unit {0}
 
-module _ (code : List ℕ) (ops : Opcodes) (types : List ℕ) (rfs : ℤ) (wide extra o : ℕ) where
-  head_has : Has (opcode_at code wide extra o) (head_at code ops.many o wide extra)
+module _ (code : List ℕ) (ops : Opcodes) (types : List ℕ) (rfs : ℤ) (prefixes : Prefixes) (o : ℕ) where
+  head_has : Has (opcode_at code prefixes o) (head_at code ops.many o prefixes)
   unfolding head_at
   head_has =
-      by_test (Has (opcode_at code wide extra o)) (ltb (length code) o) (λ _. tt)
-      (λ _. by_test (Has (opcode_at code wide extra o)) (eqb o (length code)) (λ _. tt)
-      (λ _. by_prefix (eqb (get_or code o 0) wide) (eqb (get_or code o 0) extra)))
+      by_test (Has (opcode_at code prefixes o)) (ltb (length code) o) (λ _. tt)
+      (λ _. by_test (Has (opcode_at code prefixes o)) (eqb o (length code)) (λ _. tt)
+      (λ _. by_prefix (is_op prefixes.wide (get_or code o 0)) (is_op prefixes.extra_wide (get_or code o 0))))
     where
       at_place : (start scale at : ℕ) → Has (get_or code at 0) (op_at code ops.many start scale at)
       at_place start scale at = by_test (Has (get_or code at 0)) (leb ops.many (get_or code at 0)) (λ _. tt) (λ _. refl)
@@ -58,7 +57,7 @@ module _ (code : List ℕ) (ops : Opcodes) (types : List ℕ) (rfs : ℤ) (wide 
 
   -- what is read behind an opcode has that opcode, where it is read whole
   abbrev Keeps_op : ℕ → Decoded → Type 0
-  Keeps_op op d = d.outcome ≡ Outcome.Done → d.instr.opcode ≡ op
+  Keeps_op op d = Done d → (instr_in d).opcode ≡ op
 
   read_op : (scale opcode at : ℕ) (ps : List Part) → Keeps_op opcode (read_parts code types scale opcode rfs o at ps)
   unfolding read_parts
@@ -67,18 +66,18 @@ module _ (code : List ℕ) (ops : Opcodes) (types : List ℕ) (rfs : ℤ) (wide 
       let k = first_from (is_short code ws at) 0 (length ps) in
       go (ltb k (length ps)) (refusal_at (short_fault (get_or ps k Part.count)) (at + offset_of ws k)) (instr_of o opcode scale (at + offset_of ws (length ps)) (operands_from code ws at rfs 0 ps)) refl
     where
-      go : (b : Bool) (r : Refusal) (i : Instr) → i.opcode ≡ opcode → Keeps_op opcode (cond b (record { outcome = Outcome.Refused r; instr = blank }) (record { outcome = Outcome.Done; instr = i }))
+      go : (b : Bool) (r : Refusal) (i : Instr) → i.opcode ≡ opcode → Keeps_op opcode (cond b (Err r) (Ok (Some i)))
       go true r i e done = let x : ◌≡◌ {A = ℕ} 0 1 = cc in absurd (omega (arith, x))
       go false r i e done = e
 
-  pub opcode_is : Keeps_op (opcode_at code wide extra o) (decode_at code ops types o rfs wide extra)
+  pub opcode_is : Keeps_op (opcode_at code prefixes o) (decode_at code ops types o rfs prefixes)
   unfolding decode_at
-  opcode_is = go (head_at code ops.many o wide extra) head_has
+  opcode_is = go (head_at code ops.many o prefixes) head_has
     where
-      go : (h : Head) → Has (opcode_at code wide extra o) h → Keeps_op (opcode_at code wide extra o) (decode_head h code ops types o rfs)
-      go Head.End has e = let x : ◌≡◌ {A = ℕ} 0 1 = cc in absurd (omega (arith, x))
-      go (Head.Refused r) has e = let x : ◌≡◌ {A = ℕ} 0 1 = cc in absurd (omega (arith, x))
-      go (Head.Op opcode scale at) has e = read_op scale opcode at (parts_from false (operand_types ops opcode)) e ∙ has
+      go : (h : Begins) → Has (opcode_at code prefixes o) h → Keeps_op (opcode_at code prefixes o) (decode_head h code ops types o rfs)
+      go (Ok None) has e = let x : ◌≡◌ {A = ℕ} 0 1 = cc in absurd (omega (arith, x))
+      go (Err r) has e = let x : ◌≡◌ {A = ℕ} 0 1 = cc in absurd (omega (arith, x))
+      go (Ok (Some h)) has e = read_op h.scale h.opcode h.at (parts_from false (operand_types ops h.opcode)) e ∙ has
 
 -- ---- a word and the step
 pub catch_same : (s : Source) (heads catches : List ℕ) → length heads ≤ 65536 → (i : Instr) (o : ℕ) → i.offset ≡ o

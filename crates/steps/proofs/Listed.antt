@@ -12,23 +12,23 @@ use lib.IntN.{ℤ}
 use Rattle.laws.proofs.Tests.{clash, or_either}
 use Rattle.graph.specs.Lists.{elem}
 use Rattle.graph.specs.Graph.{Step, Good, Rising, is_start}
+use Rattle.std.specs.Prelude.{Some, None, Ok, Err}
 use Rattle.decoder.specs.declared.Instr.{Instr}
-use Rattle.decoder.specs.declared.Outcome.{Outcome}
-use Rattle.decoder.specs.declared.Decoded.{Decoded}
+use Rattle.decoder.specs.Decode.{Decoded, Done, instr_in}
 use Rattle.decoder.specs.Listed.{list_on, list_from, decodes}
 use Rattle.decoder.proofs.Tiles.{Tiles, decode_says, list_tiles}
-use Rattle.flow.specs.Opcodes.{Opcodes, prefix_with}
+use Rattle.flow.specs.Opcodes.{Opcodes, prefixes_with}
 use Rattle.steps.specs.Steps.{Source, instr_steps, handler_steps, steps_at, listing, offset, walk_graph}
 
 -- an instruction starts where it was decoded
 pub own_offset : (code : List ℕ) (ops : Opcodes) (types : List ℕ) (rfs : ℤ) (at : ℕ)
-    → (decodes code ops types rfs at).outcome ≡ Outcome.Done → (decodes code ops types rfs at).instr.offset ≡ at
-own_offset code ops types rfs at e = rw e at (decode_says code ops types rfs (prefix_with ops 1) (prefix_with ops 2) at)
+    → Done (decodes code ops types rfs at) → (instr_in (decodes code ops types rfs at)).offset ≡ at
+own_offset code ops types rfs at e = rw e at (decode_says code ops types rfs (prefixes_with ops) at)
 
 -- ---- the listed instructions are what is decoded at their offsets
 abbrev Own : (ℕ → Decoded) → List Instr → Type 0
 Own d [] = Unit {0}
-Own d (i ∷ is) = ((d i.offset).instr ≡ i) × Own d is
+Own d (i ∷ is) = (instr_in (d i.offset) ≡ i) × Own d is
 
 module _ (s : Source) where
   abbrev dec : ℕ → Decoded
@@ -37,15 +37,18 @@ module _ (s : Source) where
   own : (f at : ℕ) → Own dec (list_from dec f at).instrs
   unfolding list_from
   own zero at = tt
-  own (suc f) at = go (dec at).outcome refl (own f (dec at).instr.end)
+  own (suc f) at = go (dec at) refl (own f (instr_in (dec at)).end)
     where
-      go : (o : Outcome) → (dec at).outcome ≡ o → Own dec (list_from dec f (dec at).instr.end).instrs → Own dec (list_on o (dec at).instr (list_from dec f (dec at).instr.end)).instrs
-      go Outcome.End e rest = tt
-      go (Outcome.Refused r) e rest = tt
-      go Outcome.Done e rest = (ap (λ (o : ℕ). (dec o).instr) (own_offset s.code s.opcodes s.types s.rfs at e), rest)
+      go : (x : Decoded) → dec at ≡ x → Own dec (list_from dec f (instr_in (dec at)).end).instrs → Own dec (list_on x (list_from dec f (instr_in (dec at)).end)).instrs
+      go (Ok None) e rest = tt
+      go (Err r) e rest = tt
+      go (Ok (Some i)) e rest =
+          let is : instr_in (dec at) ≡ i = ap instr_in e in
+          let at_i : i.offset ≡ at = ap offset (sym is) ∙ own_offset s.code s.opcodes s.types s.rfs at (e ∙ sym (ap (λ (j : Instr). Ok (Some j)) is)) in
+          (ap (λ (o : ℕ). instr_in (dec o)) at_i ∙ is, rest)
 
   abbrev pub own_steps : ℕ → List Step
-  own_steps o = handler_steps s (dec o).instr ++ instr_steps s.elem s.pooled (s.opcodes.flow (dec o).instr.opcode) (dec o).instr
+  own_steps o = let i = instr_in (dec o) in handler_steps s i ++ instr_steps s.elem s.pooled (s.opcodes.flow i.opcode) i
 
   steps_own : (is : List Instr) (o : ℕ) → Own dec is → elem o (map offset is) ≡ true → steps_at s is o ≡ own_steps o
   unfolding steps_at
@@ -56,7 +59,7 @@ module _ (s : Source) where
       steps j = handler_steps s j ++ instr_steps s.elem s.pooled (s.opcodes.flow j.opcode) j
 
       go : (b : Bool) → eqb i.offset o ≡ b → (elem o (map offset is) ≡ true → steps_at s is o ≡ own_steps o) → cond b (steps i) (steps_at s is o) ≡ own_steps o
-      go true h rest = ap steps (sym w.0 ∙ ap (λ (p : ℕ). (dec p).instr) (eqb-true i.offset o h))
+      go true h rest = ap steps (sym w.0 ∙ ap (λ (p : ℕ). instr_in (dec p)) (eqb-true i.offset o h))
       go false h rest = rest (⊎_elim (λ (x : eqb o i.offset ≡ true). clash (eq-eqb i.offset o (sym (eqb-true o i.offset x))) h) (λ x. x) (or_either (eqb o i.offset) (elem o (map offset is)) e))
 
   -- the steps from a start
@@ -73,9 +76,9 @@ rises at e (i ∷ is) t = (omega (arith, t.0), lower i.end (suc i.offset) (map o
     lower a b [] h r = tt
     lower a b (x ∷ l) h r = (omega (arith, r.0), r.1)
 
-module _ (s : Source) (ended : (listing s).outcome ≡ Outcome.End) where
+module _ (s : Source) (ended : (listing s).check ≡ Ok tt) where
   tiles : Tiles 0 (listing s).instrs (length s.code)
-  tiles = list_tiles s.code s.opcodes s.types s.rfs (prefix_with s.opcodes 1) (prefix_with s.opcodes 2) (suc (length s.code)) 0 (omega arith) (omega arith) ended
+  tiles = list_tiles s.code s.opcodes s.types s.rfs (prefixes_with s.opcodes) (suc (length s.code)) 0 (omega arith) (omega arith) ended
 
   pub walk_good : Good (walk_graph s)
   unfolding walk_graph

@@ -21,7 +21,7 @@ use Rattle.targets.specs.declared.Entries.{Entries}
 use Rattle.search.specs.mirror.Kept.{shown, entries_from, kept_steps, word_of}
 use Rattle.search.proofs.Kept.{Same, same_steps, same_append, same_word, form_ends, form_on, form_jump, form_branch, form_table}
 use Rattle.steps.specs.Steps.{to_target, entry_steps, entries_steps, table_steps, jumps_by, on_by, jump_steps, instr_steps}
-use Rattle.steps.specs.mirror.Keeping.{prefix_of, kept_table, kept_by, kept_of}
+use Rattle.steps.specs.mirror.Keeping.{prefix_of, kept_table, kept_by, kept_of, stored}
 use Rattle.targets.specs.declared.BadSwitch.{BadSwitch}
 
 -- ---- the entries of a table
@@ -51,8 +51,8 @@ module _ (el : ℕ → Option Elem) (heads words : List ℕ) (low : length heads
   target_same : (t : Option ℕ) → get_or words o 0 ≡ word_of (to_target t) → Same heads (to_target t ∷ []) (to_offset (get_or words o 0) ∷ [])
   target_same t w = rw w (same_word heads low (to_target t))
 
-  table_same : (t : Result (Option Entries) BadSwitch) (prefix at : ℕ) → prefix ≤ 1 → at ≡ o + prefix → get_or words o 0 ≡ (kept_table t prefix size).word
-      → Same heads (table_steps el at t ++ to_offset (o + size) ∷ []) (kept_steps el words o (kept_table t prefix size).head)
+  table_same : (t : Result (Option Entries) BadSwitch) (prefix at : ℕ) → prefix ≤ 1 → at ≡ o + prefix → get_or words o 0 ≡ (stored size (kept_table t prefix size)).word
+      → Same heads (table_steps el at t ++ to_offset (o + size) ∷ []) (kept_steps el words o (stored size (kept_table t prefix size)).head)
   table_same (Ok None) prefix at one h w = goes_on
   table_same (Ok (Some e)) prefix at one h w =
       same_steps
@@ -61,8 +61,8 @@ module _ (el : ℕ → Option Elem) (heads words : List ℕ) (low : length heads
       ∙ sym (form_table el words o size small prefix e.count one))
   table_same (Err e) prefix at one h w = goes_on
 
-  by_kind : (k : Kind) (t : Option ℕ) (entries : Result (Option Entries) BadSwitch) (prefix at : ℕ) → prefix ≤ 1 → at ≡ o + prefix → get_or words o 0 ≡ (kept_by k t entries prefix size).word
-      → Same heads (jumps_by k t (table_steps el at entries) ++ on_by k (o + size)) (kept_steps el words o (kept_by k t entries prefix size).head)
+  by_kind : (k : Kind) (t : Option ℕ) (entries : Result (Option Entries) BadSwitch) (prefix at : ℕ) → prefix ≤ 1 → at ≡ o + prefix → get_or words o 0 ≡ (stored size (kept_by k t entries prefix size)).word
+      → Same heads (jumps_by k t (table_steps el at entries) ++ on_by k (o + size)) (kept_steps el words o (stored size (kept_by k t entries prefix size)).head)
   by_kind On t entries prefix at one h w = goes_on
   by_kind Ends t entries prefix at one h w = same_steps (sym (form_ends el words o size small))
   by_kind Jumps t entries prefix at one h w = rw (form_jump el words o size small) (target_same t w)
@@ -75,9 +75,9 @@ module _ (el : ℕ → Option Elem) (heads words : List ℕ) (low : length heads
     one_byte = by_test (λ (p : ℕ). p ≤ 1) (ltb 1 i.scale) (λ _. omega arith) (λ _. omega arith)
 
     -- the word at o is what is kept of it
-    pub kept_same : (pooled : Bool) (flow : Flow) → get_or words o 0 ≡ (kept_of el pooled flow i size).word
-        → Same heads (instr_steps el pooled flow i) (kept_steps el words o (kept_of el pooled flow i size).head)
+    pub kept_same : (pooled : Bool) (flow : Flow) → get_or words o 0 ≡ (stored size (kept_of el pooled flow i size)).word
+        → Same heads (instr_steps el pooled flow i) (kept_steps el words o (stored size (kept_of el pooled flow i size)).head)
     unfolding instr_steps kept_of
     kept_same pooled flow w =
-        subst (λ (e : ℕ). Same heads (jump_steps el pooled flow i ++ on_by flow.kind e) (kept_steps el words o (kept_of el pooled flow i size).head)) (sym ends)
+        subst (λ (e : ℕ). Same heads (jump_steps el pooled flow i ++ on_by flow.kind e) (kept_steps el words o (stored size (kept_of el pooled flow i size)).head)) (sym ends)
         (by_kind flow.kind (jump_target el flow i) (jump_table pooled flow i) (prefix_of i.scale) (here i) one_byte (omega (arith, own, inside, one_byte)) w)

@@ -15,15 +15,14 @@ use targets::{BadSwitch, Entries, PoolSlots};
 // The word of no target: a place where nothing starts.
 const NOWHERE: u32 = 4294967295;
 
-// The head and the word of an instruction, and whether number 16 refuses its table.
+// The head and the word of an instruction.
 #[derive(Clone, Copy)]
 pub struct Kept {
     pub head: u32,
     pub word: u32,
-    pub refused: bool,
 }
 
-// What is kept of an instruction of so many bytes, by a summary of the pool's slots.
+// What is kept of an instruction of so many bytes, by a summary of the pool's slots. Number 16 may refuse its table.
 pub fn kept_of(
     slots: &[u8],
     payload: &[u8],
@@ -33,14 +32,14 @@ pub fn kept_of(
     flow: Flow,
     instr: Instr,
     size: u8,
-) -> Kept
+) -> Result<Kept, BadSwitch>
     ensures { PoolBlocked slots.now ts pool blocks.now
         → result ≡ kept_of (pool_searched slots.now payload.now ts pool) (found pool) flow instr size }
 {
     match flow.kind {
-        Kind::On => kept_on(size),
-        Kind::Ends => kept_end(size),
-        Kind::Jumps | Kind::JumpsBack => kept_jump(
+        Kind::On => Ok(kept_on(size)),
+        Kind::Ends => Ok(kept_end(size)),
+        Kind::Jumps | Kind::JumpsBack => Ok(kept_jump(
             slots,
             payload,
             blocks,
@@ -49,8 +48,8 @@ pub fn kept_of(
             flow,
             instr,
             size as u32 + 512,
-        ),
-        Kind::Branches => kept_jump(
+        )),
+        Kind::Branches => Ok(kept_jump(
             slots,
             payload,
             blocks,
@@ -59,7 +58,7 @@ pub fn kept_of(
             flow,
             instr,
             size as u32 + 768,
-        ),
+        )),
         Kind::Switch => kept_table(
             targets::jump_table_unchecked(pool, flow, instr),
             prefix_of(instr.scale),
@@ -75,7 +74,6 @@ pub fn kept_end(size: u8) -> Kept
     Kept {
         head: size as u32,
         word: 0,
-        refused: false,
     }
 }
 
@@ -86,7 +84,6 @@ pub fn kept_on(size: u8) -> Kept
     Kept {
         head: size as u32 + 256,
         word: 0,
-        refused: false,
     }
 }
 
@@ -108,7 +105,6 @@ fn kept_jump(
     Kept {
         head,
         word: word_of(target),
-        refused: false,
     }
 }
 
@@ -123,21 +119,19 @@ fn word_of(target: Option<u64>) -> u32
 }
 
 // Of a switch: the number of its first element, and how many there are. Without a table it goes on.
-fn kept_table(table: Result<Option<Entries>, BadSwitch>, prefix: u8, size: u8) -> Kept
+fn kept_table(
+    table: Result<Option<Entries>, BadSwitch>,
+    prefix: u8,
+    size: u8,
+) -> Result<Kept, BadSwitch>
     ensures { result ≡ kept_table table prefix size }
 {
-    match table {
-        Ok(None) => kept_on(size),
-        Ok(Some(e)) => Kept {
+    match table? {
+        Some(e) => Ok(Kept {
             head: size as u32 + 1280 + 2048 * prefix as u32 + 4096 * e.count as u32,
             word: e.start,
-            refused: false,
-        },
-        Err(BadSwitch) => Kept {
-            head: size as u32 + 256,
-            word: 0,
-            refused: true,
-        },
+        }),
+        None => Ok(kept_on(size)),
     }
 }
 

@@ -10,19 +10,16 @@ use native.Mathlib.Nat.{le_refl}
 use native.Mathlib.Numerals.{add-one}
 use borrow.Author.Tests.{lt-ltb, le-ltb}
 use lib.Dec.{ltb}
+use Rattle.std.proofs.Math.Bool.{or-true}
 use lib.ListN.{length, get_or, set, length-set}
 use lib.Seq.{get_or-set_same, get_or-set_other}
 use Rattle.laws.specs.Scan.{first_from}
 use Rattle.laws.proofs.Scan.{first_is, first-within, first_holds, first-before, first_more}
 use Rattle.laws.proofs.Tests.{under?, same?}
 use Rattle.store.specs.Records.{slot_of, object_of}
-use Rattle.store.specs.mirror.Falls.{lower, Later}
+use Rattle.store.specs.mirror.Falls.{lower}
 use Rattle.store.specs.Check.{falls_in, falls}
 use Rattle.store.proofs.Falls.{high, level}
-
-or_true : (t : Bool) → (t || true) ≡ true
-or_true true = refl
-or_true false = refl
 
 -- the first place of either test is the lesser of the first places of both
 first_least : (p q : ℕ → Bool) (n : ℕ) → min (first_from p 0 n) (first_from q 0 n) ≡ first_from (λ k. p k || q k) 0 n
@@ -42,7 +39,7 @@ first_least p q n = sym (first_is (λ k. p k || q k) 0 n (min a b) (omega arith)
       where
         go : (a < b) ⊎ (b ≤ a) → (p (min a b) || q (min a b)) ≡ true
         go (inl m) = let e : min a b ≡ a = omega arith in rw (e, first_holds p 0 n (omega arith))
-        go (inr m) = let e : min a b ≡ b = omega arith in rw (e, first_holds q 0 n (omega arith)) (or_true (p b))
+        go (inr m) = let e : min a b ≡ b = omega arith in rw (e, first_holds q 0 n (omega arith)) (or-true (p b))
 
 -- what all objects before k found, and what object k finds
 pub falls_least : (o s : List ℕ) (end k : ℕ) → min (first_from (falls o s k) 0 end) (first_from (falls_in s (object_of o k).first (object_of o k).count) 0 end) ≡ first_from (falls o s (k + 1)) 0 end
@@ -84,9 +81,6 @@ module _ (s : List ℕ) (end : ℕ) where
           let h : b * 256 ≡ k - 1 = omega arith in
           rw (h, e) (get_or-set_same later ((k - 1) / 256) fall 0 (omega (arith, f.room)) ∙ found)
       go b y low m (inr e) = get_or-set_other later ((k - 1) / 256) b fall 0 e ∙ f.at b y (omega arith) m
-
-  pub filled-all : {later : List ℕ} (k : ℕ) → k ≤ 256 → Filled k later → Later s end later
-  filled-all k l f = record { room = f.room; at = λ b z m. f.at b z (omega arith) m }
 
   -- the first lower index from slot k - 1 on
   pub lower_next : (k : ℕ) {here before found r : ℕ} → 0 < k → k ≤ end → here ≡ (slot_of s (k - 1)).index → before ≡ (slot_of s (k - 1 - 1)).index

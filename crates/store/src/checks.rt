@@ -1,11 +1,12 @@
 // Sizes, and each record by itself: rows 6 and 7.
-ghost use Rattle.std.specs.Prelude.{◌≡◌, MatchOption};
+ghost use Rattle.std.specs.Prelude.{◌≡◌};
 ghost use Rattle.laws.specs.Scan.{first_from};
 ghost use Rattle.refusal.specs.Check.{first_bad};
 ghost use Rattle.refusal.specs.declared.Fault.TheVariants as fault;
 ghost use Rattle.store.specs.Records.{object_count, slot_count};
 ghost use Rattle.store.specs.Check.{sizes_ok, slots_exist, object_ok, fields_ok, value_ok, slot_ok, bad_object, bad_alone};
 
+use crate::records::{byte_in, slot_index, u16_in, u32_in};
 use refusal::{Fault, Refusal};
 
 // Row 6.
@@ -33,29 +34,22 @@ fn slots_exist(slots: usize, first: u32, count: u32) -> bool
 fn object_ok(objects: &[u8], slots: usize, k: usize) -> bool
     ensures { result ≡ object_ok objects.now slots k }
 {
-    let at = crate::records::object_place(objects.len(), k);
-    words::byte_at(objects, at) <= 2
-        && words::byte_at(objects, at + 1) <= 1
-        && words::u16_at(objects, at + 2) == 0
+    byte_in::<16>(objects, k, 0) <= 2
+        && byte_in::<16>(objects, k, 1) <= 1
+        && u16_in::<16>(objects, k, 2) == 0
         && slots_exist(
             slots,
-            words::u32_at(objects, at + 4),
-            words::u32_at(objects, at + 8),
+            u32_in::<16>(objects, k, 4),
+            u32_in::<16>(objects, k, 8),
         )
 }
 
 pub(crate) fn check_objects(objects: &[u8], slots: usize) -> Result<(), Refusal>
     ensures { result ≡ first_bad fault.BadRecord (bad_object objects.now slots) (object_count objects.now) }
 {
-    for k in 0..crate::records::object_count(objects) {
-        if !object_ok(objects, slots, k) {
-            return Err(Refusal {
-                fault: Fault::BadRecord,
-                place: k,
-            });
-        }
-    }
-    Ok(())
+    let n = crate::records::object_count(objects);
+    let bad = (0..n).find(|k| !object_ok(objects, slots, *k));
+    refusal::at_record(Fault::BadRecord, bad.unwrap_or(n), n)
 }
 
 // Row 7, slots by themselves.
@@ -92,35 +86,29 @@ fn value_ok(
     inner == 0 && count == 0 && fields_ok(objects, payload, kind, number, len)
 }
 
-#[tactic(auto, unfolding(crate::specs::Check::slot_ok))]
+#[tactic(auto, unfolding(crate::specs::Check::slot_ok, crate::specs::Records::slot_of))]
 fn slot_ok(slots: &[u8], objects: usize, payload: usize, k: usize) -> bool
     ensures { result ≡ slot_ok slots.now objects payload k }
 {
-    let at = crate::records::slot_place(slots.len(), k);
-    words::u32_at(slots, at) <= 1048576
-        && words::u16_at(slots, at + 6) == 0
-        && words::u32_at(slots, at + 20) == 0
+    slot_index(slots, k) <= 1048576
+        && u16_in::<24>(slots, k, 6) == 0
+        && u32_in::<24>(slots, k, 20) == 0
         && value_ok(
             objects,
             payload,
-            words::byte_at(slots, at + 4),
-            words::byte_at(slots, at + 5),
-            words::u32_at(slots, at + 8),
-            words::u32_at(slots, at + 12),
-            words::u32_at(slots, at + 16),
+            byte_in::<24>(slots, k, 4),
+            byte_in::<24>(slots, k, 5),
+            u32_in::<24>(slots, k, 8),
+            u32_in::<24>(slots, k, 12),
+            u32_in::<24>(slots, k, 16),
         )
 }
 
-// The first slot that is bad by itself.
-pub(crate) fn first_bad_slot(slots: &[u8], objects: usize, payload: usize) -> Option<usize>
-    ensures { MatchOption result
-        (first_from (bad_alone slots.now objects payload) 0 (slot_count slots.now) ≡ slot_count slots.now)
-        (λ k. k ≡ first_from (bad_alone slots.now objects payload) 0 (slot_count slots.now)) }
+// How many slots come before the first that is bad by itself.
+pub(crate) fn good_slots(slots: &[u8], objects: usize, payload: usize) -> usize
+    ensures { result ≡ first_from (bad_alone slots.now objects payload) 0 (slot_count slots.now) }
 {
-    for k in 0..crate::records::slot_count(slots) {
-        if !slot_ok(slots, objects, payload, k) {
-            return Some(k);
-        }
-    }
-    None
+    let n = crate::records::slot_count(slots);
+    let bad = (0..n).find(|k| !slot_ok(slots, objects, payload, *k));
+    bad.unwrap_or(n)
 }

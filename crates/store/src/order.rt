@@ -9,6 +9,7 @@ ghost use Rattle.store.specs.Check.{falls_in, falls};
 
 // The first slot below end that falls within the count slots from first on, or end.
 // The end stands for none here and below: the next search ends at it, the least over all objects starts from it, and it fits a u32 of the table.
+#[tactic(auto, using(crate::proofs::Falls::clear_start, crate::proofs::Falls::clear_next, crate::proofs::Falls::fall_here, crate::proofs::Falls::fall_none))]
 fn first_fall_in(slots: &[u8], first: u32, count: u32, end: usize) -> usize
     ensures { result ≡ first_from (falls_in slots.now first count) 0 end }
 {
@@ -50,6 +51,7 @@ fn find_falls(slots: &[u8], later: &mut [u32], end: usize)
 }
 
 // As first_fall_in: slot by slot to the end of first's part, and then as it is written down.
+#[tactic(auto, using(crate::proofs::Parts::fall_near, crate::proofs::Parts::fall_edge, crate::proofs::Parts::fall_far, crate::proofs::Parts::fall_behind))]
 fn fall_by_parts(slots: &[u8], later: &[u32], first: u32, count: u32, end: usize) -> usize
     requires { (end ≤ 1048576) × Later slots.now end later.now }
     ensures { result ≡ first_from (falls_in slots.now first count) 0 end }
@@ -71,6 +73,7 @@ fn fall_by_parts(slots: &[u8], later: &[u32], first: u32, count: u32, end: usize
 }
 
 // The first slot below end that falls within an object, or end.
+#[tactic(auto, using(crate::proofs::Falls::falls_none, crate::proofs::Parts::falls_least))]
 fn fall_of_objects(objects: &[u8], slots: &[u8], later: &[u32], end: usize) -> usize
     requires { (end ≤ 1048576) × Later slots.now end later.now }
     ensures { result ≡ first_from (falls objects.now slots.now (object_count objects.now)) 0 end }
@@ -101,6 +104,7 @@ fn fall_in<const N: usize>(objects: &[u8], slots: &[u8], end: usize) -> usize
 }
 
 // The same; where no index at all is lower than the one before it, no object is asked, and few slots take little room.
+#[tactic(auto, using(crate::proofs::Parts::none_lower))]
 pub(crate) fn first_fall(objects: &[u8], slots: &[u8], end: usize) -> usize
     requires { end ≤ 1048576 }
     ensures { result ≡ first_from (falls objects.now slots.now (object_count objects.now)) 0 end }

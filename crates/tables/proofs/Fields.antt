@@ -1,8 +1,8 @@
 -- Fields of names, many bytes at a time. Assumes nothing.
-use Rattle.std.proofs.Common.{◌≡◌, ℕ, zero, suc, ◌+◌, ◌-◌, ◌/◌, ◌%◌, ◌<◌, ◌≤◌, max, Bool, true, false, cond, not, eqb, List, [], length, get_or, take, drop, sym, refl, ap, ◌∙◌, ⊎_elim, zero-add, arith, length-drop, length-take-le, get_or-drop, get_or-take, lt-ltb, eq-eqb, ne_eqb, eqb-true, le-leb}
+use Rattle.std.proofs.Common.{◌≡◌, ℕ, zero, suc, ◌+◌, ◌-◌, ◌/◌, ◌%◌, ◌<◌, ◌≤◌, max, true, false, not, eqb, List, [], length, get_or, take, drop, sym, refl, ap, ◌∙◌, ⊎_elim, zero-add, arith, length-drop, length-take-le, get_or-drop, get_or-take, lt-ltb, eq-eqb, ne_eqb, eqb-true, le-leb}
 use borrow.Author.Tests.{lt-leb, not-true, not-false}
 use Rattle.laws.specs.Scan.{first_from, within}
-use Rattle.laws.proofs.Scan.{first-here, first_next, first_end, first-within, first_holds, first_none, first_is, first_along, within_below, within_above}
+use Rattle.laws.proofs.Scan.{first-here, first_next, first_end, first-within, first_holds, first_none, first_is, first_along}
 use Rattle.laws.proofs.Tests.{clash, under?, same?, or_either, eqb_along}
 use Rattle.words.specs.Le.{le_at}
 use Rattle.words.proofs.Le.{Bytes, le_at_none, le_at_past}
@@ -14,10 +14,6 @@ use Rattle.tables.proofs.Rows.{le_at_same, named_byte, named_same}
 -- ---- a field with the empty name has only zeros
 pub no_bytes : Bytes []
 no_bytes k = record { fits = omega arith }
-
--- what lies outside of a range
-pub within_none : (a e x : ℕ) → (a ≤ x → x ≤ e → ⊥) → within a e x ≡ false
-within_none a e x h = ⊎_elim (λ (l : x < a). within_below a e x l) (λ (l : a ≤ x). within_above a e x (⊎_elim (λ (m : e < x). m) (λ m. absurd (h l m)) (under? e x))) (under? x a)
 
 -- ---- the part of a file from from to to
 module _ (s : List ℕ) (from to : ℕ) (room : to ≤ length s) where
@@ -127,25 +123,6 @@ codes_zeros s at known mark few =
 -- two runs that meet
 pub fine_both : (s : List ℕ) (a b c d : ℕ) → c ≤ b → Fine s a b → Fine s c d → Fine s a d
 fine_both s a b c d meet f g k low high = ⊎_elim (λ (l : k < b). f k low l) (λ (l : b ≤ k). g k (omega arith) high) (under? k b)
-
--- a count of fine bytes is whole only where each is
-module _ (s : List ℕ) (from i sum r : ℕ) (is : r ≡ cond (is_fine (get_or s (from + i) 0) (get_or s (from + i + 1) 0)) 1 0) where
-  pub fine_flag : r ≤ 1
-  fine_flag = rw is (go (is_fine (get_or s (from + i) 0) (get_or s (from + i + 1) 0)))
-    where
-      go : (t : Bool) → cond t 1 0 ≤ 1
-      go true = omega arith
-      go false = omega arith
-
-  pub fine_more : sum ≤ i → (sum ≡ i → Fine s from (from + i)) → sum + r ≡ i + 1 → Fine s from (from + (i + 1))
-  fine_more most before whole k low high = ⊎_elim (λ (l : k < from + i). before (omega (arith, fine_flag)) k low l) (λ (l : from + i ≤ k). let e : from + i ≡ k = omega arith in rw e at here) (under? k (from + i))
-    where
-      go : (t : Bool) → ◌≡◌ {A = ℕ} (cond t 1 0) 1 → t ≡ true
-      go true e = refl
-      go false e = absurd (omega arith)
-
-      here : is_fine (get_or s (from + i) 0) (get_or s (from + i + 1) 0) ≡ true
-      here = let one : r ≡ 1 = omega (arith, fine_flag) in go _ (sym is ∙ one)
 
 zero_none : is_name 0 ≡ false
 unfolding within

@@ -1,5 +1,5 @@
 // Names: row 2, and names as texts.
-ghost use Rattle.std.specs.Prelude.{◌≡◌, ◌+◌, ◌-◌, ◌*◌, ◌/◌, ◌<◌, ◌≤◌, max, true, [], length, if◌then◌else◌};
+ghost use Rattle.std.specs.Prelude.{◌≡◌, ◌+◌, ◌-◌, ◌<◌, ◌≤◌, true, [], length, if◌then◌else◌};
 ghost use Rattle.laws.specs.Scan.{first_from};
 ghost use Rattle.tables.specs.Names.{is_name, not_name, name_ok, is_zero, name_at, is_named};
 ghost use Rattle.tables.specs.mirror.Fields.{is_fine, Fine};
@@ -50,7 +50,7 @@ pub fn type_name<'a>(types: &'a [u8], t: u8) -> &'a [u8]
     name_at(types, (t as usize) * TYPE_SIZE, TYPE_NAME)
 }
 
-// The name of a runtime function, or its number where there is none.
+// The name of a runtime function; its number, if it has no name.
 pub fn put_runtime_name(out: &mut [u8], at: usize, runtime: &[u8], id: u32) -> usize
     ensures { Put out.old at (runtime_name runtime.now id) out.new result }
 {
@@ -61,7 +61,7 @@ pub fn put_runtime_name(out: &mut [u8], at: usize, runtime: &[u8], id: u32) -> u
     }
 }
 
-// The name of an intrinsic, or `intrinsic` and its number where there is none.
+// The name of an intrinsic; `intrinsic` and its number, if it has no name.
 pub fn put_intrinsic_name(out: &mut [u8], at: usize, intrinsic: &[u8], id: u32) -> usize
     ensures { Put out.old at (intrinsic_name intrinsic.now id) out.new result }
 {
@@ -127,32 +127,22 @@ fn is_plain(s: &[u8], at: usize, w: u8) -> bool
     ensures { result ≡ true → name_ok s.now at w ≡ true }
 {
     match w {
-        NAME => is_plain_64(s, at),
-        OPCODE_NAME => is_plain_40(s, at),
+        NAME => is_plain_in::<64>(s, at),
+        OPCODE_NAME => is_plain_in::<40>(s, at),
         _ => false,
     }
 }
 
-// A name of at most 32 bytes, or of more that ends before the field's last byte.
-fn is_plain_64(s: &[u8], at: usize) -> bool
-    requires { at + 64 ≤ length s.now }
-    ensures { result ≡ true → name_ok s.now at 64 ≡ true }
+// Of a field of W bytes: a name of at most 32, or of more that ends before the field's last byte.
+fn is_plain_in<const W: usize>(s: &[u8], at: usize) -> bool
+    requires { (33 ≤ W) × (W ≤ 64) × (at + W ≤ length s.now) }
+    ensures { result ≡ true → name_ok s.now at W ≡ true }
 {
     let from = at + 32;
-    let to = at + 64;
+    let to = at + W;
     s[at] != 0
         && fine_bytes(s, at) == 32
-        && (all_zero(&s[from..to]) || fine_bytes(s, at + 31) == 32 && s[at + 63] == 0)
-}
-
-// A name of at most 32 bytes.
-fn is_plain_40(s: &[u8], at: usize) -> bool
-    requires { at + 40 ≤ length s.now }
-    ensures { result ≡ true → name_ok s.now at 40 ≡ true }
-{
-    let from = at + 32;
-    let to = at + 40;
-    s[at] != 0 && fine_bytes(s, at) == 32 && all_zero(&s[from..to])
+        && (all_zero(&s[from..to]) || fine_bytes(s, to - 33) == 32 && s[to - 1] == 0)
 }
 
 // How many of the 32 bytes from place from are fine before the next. The sum has no branch, so that sixteen bytes are added at once.
@@ -184,7 +174,7 @@ fn is_name(b: u8) -> bool
     b.wrapping_sub(97) < 26 || b.wrapping_sub(65) < 26 || b.wrapping_sub(48) < 10 || b == 95
 }
 
-// The first place from from, below to, whose byte is no part of a name; to where there is none.
+// Where the bytes of a name from place from on end, at to at the latest.
 fn name_end(s: &[u8], from: usize, to: usize) -> usize
     requires { from ≤ to }
     ensures { result ≡ first_from (not_name s.now) from (to - from) }
@@ -248,7 +238,7 @@ fn field_is(s: &[u8], at: usize, w: u8, name: &[u8]) -> bool
     true
 }
 
-// The first place from from, below to, whose byte is zero; to where there is none.
+// Where the bytes from place from on that are not zero end, at to at the latest.
 fn zero_from(s: &[u8], from: usize, to: usize) -> usize
     requires { from ≤ to }
     ensures { result ≡ first_from (is_zero s.now) from (to - from) }

@@ -1,14 +1,15 @@
 // Opcode and type records: rows 3, 26 and 4, and what is read of them.
-ghost use Rattle.std.specs.Prelude.{◌≡◌, ◌+◌, ◌-◌, ◌*◌, ◌/◌, ◌<◌, ◌≤◌, ◌==◌, min, cond, ◌&&◌, length, Option, Some, None};
-ghost use Rattle.refusal.specs.declared.Fault.TheVariants as fault;
+ghost use Rattle.std.specs.Prelude.{◌≡◌, ◌+◌, ◌/◌, ◌<◌, ◌≤◌, ◌==◌, length};
 ghost use Rattle.laws.specs.Scan.{first_from};
-ghost use Rattle.tables.specs.Records.{opcode_size, old_size, opcode_start, opcode_count, type_count, type_name_size, type_names, fixed_types, operand_count, type_code, width, prefix_op, prefixes_of, has_type_name, name_fits, size_fits, size_good, type_ok, type_fault};
-ghost use Rattle.tables.specs.Records.{zeros, fields_ok, flow_fits, size_as, fault_as};
-ghost use Rattle.tables.specs.mirror.Fields.{codes_fit};
+ghost use Rattle.tables.specs.Records.{opcode_start, opcode_count, type_count, type_name_size, type_names, fixed_types, operand_count, type_code, width, prefix_op, prefixes_of, has_type_name, name_fits, size_fits, size_good, type_ok, type_fault};
+ghost use Rattle.tables.specs.Records.{fields_ok, size_as, fault_as};
+ghost use Rattle.tables.specs.mirror.Fields.{codes_fit, used_as, record_fits, flow_as};
 ghost use Rattle.tables.specs.mirror.Rows.{rows};
 ghost use Rattle.tables.specs.Check.{first_fault, check_types};
 
-use crate::{FIXED_TYPES, Form, OLD_SIZE, OPCODE_SIZE, Prefixes, TYPE_NAME, TYPE_SIZE};
+use crate::{
+    FIXED_TYPES, Form, MOST_OPCODES, OLD_SIZE, OPCODE_SIZE, Prefixes, TYPE_NAME, TYPE_SIZE,
+};
 use refusal::{Fault, Refusal};
 
 // The width of an operand of type code t at a scale, at most 8.
@@ -71,7 +72,7 @@ pub fn prefix_ops(opcodes: &[u8]) -> Prefixes
 // Opcode records: row 3, and 26.
 
 // How many bytes a record of a form has.
-pub(crate) fn opcode_size(form: Form) -> usize
+pub fn opcode_size(form: Form) -> usize
     ensures { result ≡ size_as form }
 {
     match form {
@@ -94,57 +95,52 @@ pub(crate) fn check_opcodes(opcodes: &[u8], types: &[u8], form: Form) -> Result<
     Ok(())
 }
 
-// What is wrong with an opcode record; known types exist.
+// What is wrong with an opcode record; known types exist. Its flow is judged last.
 fn opcode_fault(opcodes: &[u8], op: usize, known: usize, form: Form) -> Option<Fault>
     requires { op < length opcodes.now / size_as form }
     ensures { result ≡ fault_as form opcodes.now known op }
 {
-    match form {
-        Form::Old => old_fault(opcodes, op * OLD_SIZE, known),
-        Form::New => new_fault(opcodes, op * OPCODE_SIZE, known),
-    }
-}
-
-// Of the record at place at: its fields, then zeros.
-#[tactic(auto, using(crate::proofs::Fields::zeros_part))]
-fn old_fault(s: &[u8], at: usize, known: usize) -> Option<Fault>
-    requires { at + old_size ≤ length s.now }
-    ensures { result ≡ cond (fields_ok s.now at known && zeros s.now (at + 50) (at + old_size)) None (Some fault.BadOpcode) }
-{
-    let from = at + 50;
-    let to = at + OLD_SIZE;
-    if fields_ok(s, at, known) && crate::names::all_zero(&s[from..to]) {
-        None
-    } else {
+    let at = op * opcode_size(form);
+    if !record_ok(opcodes, at, known, form) {
         Some(Fault::BadOpcode)
-    }
-}
-
-// Its fields, its flow, zeros; the flow is judged last.
-#[tactic(auto, using(crate::proofs::Fields::zeros_part))]
-fn new_fault(s: &[u8], at: usize, known: usize) -> Option<Fault>
-    requires { at + opcode_size ≤ length s.now }
-    ensures { result ≡ cond (fields_ok s.now at known && zeros s.now (at + 54) (at + opcode_size))
-        (cond (flow_fits s.now at) None (Some fault.BadFlow)) (Some fault.BadOpcode) }
-{
-    let from = at + 54;
-    let to = at + OPCODE_SIZE;
-    if !(fields_ok(s, at, known) && crate::names::all_zero(&s[from..to])) {
-        Some(Fault::BadOpcode)
-    } else if flow_fits(s, at) {
-        None
-    } else {
+    } else if !flow_fits(opcodes, at, form) {
         Some(Fault::BadFlow)
+    } else {
+        None
     }
 }
 
-// Whether each of the four bytes of the flow is one that there is.
-#[tactic(auto, unfolding(crate::specs::Records::flow_fits))]
-fn flow_fits(s: &[u8], at: usize) -> bool
-    requires { at + 54 ≤ length s.now }
-    ensures { result ≡ flow_fits s.now at }
+// Whether the record at place at has good fields, and zeros behind what its form has.
+#[tactic(auto, using(crate::proofs::Fields::zeros_part))]
+fn record_ok(s: &[u8], at: usize, known: usize, form: Form) -> bool
+    requires { at + size_as form ≤ length s.now }
+    ensures { result ≡ record_fits form s.now at known }
 {
-    s[at + 50] <= 5 && s[at + 51] <= 1 && s[at + 52] <= 7 && s[at + 53] <= 1
+    let from = at + used_size(form);
+    let to = at + opcode_size(form);
+    fields_ok(s, at, known) && crate::names::all_zero(&s[from..to])
+}
+
+// How many bytes of a record say something: all but the zeros at its end.
+fn used_size(form: Form) -> usize
+    ensures { result ≡ used_as form }
+{
+    match form {
+        Form::Old => 50,
+        Form::New => 54,
+    }
+}
+
+// Whether each of the four bytes of the flow is one that there is; the old form has none.
+#[tactic(auto, unfolding(crate::specs::Records::flow_fits))]
+fn flow_fits(s: &[u8], at: usize, form: Form) -> bool
+    requires { at + size_as form ≤ length s.now }
+    ensures { result ≡ flow_as form s.now at }
+{
+    match form {
+        Form::Old => true,
+        Form::New => s[at + 50] <= 5 && s[at + 51] <= 1 && s[at + 52] <= 7 && s[at + 53] <= 1,
+    }
 }
 
 // Whether the mark, the count and the codes of the record at place at are good; known types exist.
@@ -174,16 +170,16 @@ fn codes_fit(s: &[u8], at: usize, count: u8, known: usize) -> bool
 }
 
 // The first record with this prefix mark.
-fn prefix_op(opcodes: &[u8], mark: u8) -> u16
+fn prefix_op(opcodes: &[u8], mark: u8) -> Option<u8>
     ensures { result ≡ prefix_op opcodes.now mark }
 {
-    let n = opcode_count(opcodes).min(256) as u16;
+    let n = opcode_count(opcodes).min(MOST_OPCODES);
     for op in 0..n {
-        if words::byte_at(opcodes, (op as usize) * OPCODE_SIZE + 40) == mark {
-            return op;
+        if words::byte_at(opcodes, op * OPCODE_SIZE + 40) == mark {
+            return Some(op as u8);
         }
     }
-    256
+    None
 }
 
 // Type records: row 4.

@@ -2,18 +2,18 @@
 use Rattle.std.specs.Prelude.{ℤ}
 use Rattle.std.proofs.Common.{◌≡◌, ℕ, ◌<◌, min, true, false, get_or, refl, lt-ltb}
 use Rattle.laws.proofs.Tests.{clash}
-use Rattle.operand.specs.declared.Operand.TheVariants.{Nothing}
 use Rattle.decoder.specs.declared.Instr.{Instr}
 use Rattle.flow.specs.declared.Kind.{Kind}
 use Rattle.flow.specs.declared.Kind.TheVariants.{On, Ends, Jumps, Branches, JumpsBack, Switch}
 use Rattle.flow.specs.declared.Flow.{Flow}
+use Rattle.decoder.specs.Decode.{record_of}
 use Rattle.std.specs.Prelude.{Option, None}
 use Rattle.serializer.specs.declared.Elem.{Elem}
 use Rattle.targets.specs.Targets.{operand_of, here, distance_by, target_by, jump_target}
 use Rattle.targets.specs.mirror.Jumps.{is_jump}
 
 module _ (i : Instr) (k : ℕ) where
-  pub operand_some : k < min i.count 8 → (get_or i.operands k (record { operand = Nothing })).operand ≡ operand_of i k
+  pub operand_some : k < min i.count 8 → (get_or i.operands k (record_of None)).operand ≡ operand_of i k
   unfolding operand_of
   operand_some h = rw (lt-ltb k (min i.count 8) h)
 

@@ -1,14 +1,13 @@
 -- For instructions in V8's form our targets and entries are V8's. Assumes nothing.
-use Rattle.std.proofs.Common.{◌≡◌, ℕ, zero, suc, ◌+◌, ◌^◌, ◌<◌, ◌≤◌, min, Bool, true, false, cond, ◌||◌, eqb, List, [], ◌∷◌, ◌++◌, length, get_or, ℤ, pos, negsuc, ◌+ℤ◌, neg_ℤ, nat_abs, sym, refl, ap, ◌∙◌, le_of_suc-le-suc, not-suc-le-zero, mod-eq_of_lt, arith, w32, SFits, lt-ltb, le-leb}
+use Rattle.std.proofs.Common.{◌≡◌, ℕ, zero, suc, ◌+◌, ◌^◌, ◌<◌, ◌≤◌, min, Bool, true, false, cond, ◌||◌, eqb, List, [], ◌∷◌, ◌++◌, length, map, get_or, ℤ, pos, negsuc, ◌+ℤ◌, neg_ℤ, nat_abs, sym, refl, ap, ◌∙◌, le_of_suc-le-suc, not-suc-le-zero, mod-eq_of_lt, arith, w32, SFits, lt-ltb, le-leb}
 use lib.IntN.{+ℤ_assoc, +ℤ_comm, +ℤ_idr}
 use Rattle.words.specs.Signed.{modulo, wrap32}
 use Rattle.words.proofs.Le.{Bytes}
 use Rattle.words.proofs.Signs.{wrap_add_wrap}
 use Rattle.operand.specs.declared.Operand.{Operand}
-use Rattle.operand.specs.declared.Operand.TheVariants.{Nothing, Imm, Idx}
+use Rattle.operand.specs.declared.Operand.TheVariants.{Imm, Idx}
 use Rattle.decoder.specs.declared.Instr.{Instr}
-use Rattle.decoder.specs.declared.Decoded.{Decoded}
-use Rattle.decoder.specs.Decode.{instr_of, records_of}
+use Rattle.decoder.specs.Decode.{instr_in, instr_of, places_of, record_of}
 use Rattle.flow.specs.Opcodes.{Opcodes}
 use Rattle.decoder.specs.Listed.{decodes}
 use Rattle.decoder.specs.V8.{OperandType, Bytecodes, type_info, is_unsigned, is_prefix_scaling, to_int, size, prefix_size, operand_scale, current_bytecode, current_types, next_offset, get_operand}
@@ -49,15 +48,15 @@ away_same : (offset prefix : ℕ) (r : ℤ) → Offset (pos offset +ℤ r +ℤ p
 away_same offset prefix r h = rw (sum_same offset prefix r) (target_same (pos offset +ℤ r +ℤ pos prefix) h)
 
 -- what operands say
-index_of_lem : {op : Operand} {v : ℕ} → op ≡ Idx v → index_of op ≡ Some v
+index_of_lem : {op : Option Operand} {v : ℕ} → op ≡ Some (Idx v) → index_of op ≡ Some v
 unfolding index_of
 index_of_lem f = rw f
 
-number_of_lem : {op : Operand} {v : ℕ} → op ≡ Idx v → number_of op ≡ Some (pos v)
+number_of_lem : {op : Option Operand} {v : ℕ} → op ≡ Some (Idx v) → number_of op ≡ Some (pos v)
 unfolding number_of
 number_of_lem f = rw f
 
-base_of_lem : {op : Operand} {c : ℤ} → op ≡ Imm c → number_of op ≡ Some c
+base_of_lem : {op : Option Operand} {c : ℤ} → op ≡ Some (Imm c) → number_of op ≡ Some c
 unfolding number_of
 base_of_lem f = rw f
 
@@ -73,7 +72,7 @@ module _ (el : ℕ → Option Elem) (pool : ConstantPool) (same : SamePool el po
   near : (v : ℕ) → z 0 k_u_imm ≡ pos v → Int (z 0 k_u_imm) → to_int (z 0 k_u_imm) ≡ pos v
   near v u h = rw u (to_int_same v (rw u at h))
 
-  module _ (v : ℕ) (f : operand_of i 0 ≡ Idx v) where
+  module _ (v : ℕ) (f : operand_of i 0 ≡ Some (Idx v)) where
     immediate : (c : Bool) → z 0 k_u_imm ≡ pos v → Int (z 0 k_u_imm) → Offset (get_jump_target_offset offset prefix z pool jump_immediate) → Jumps jump_immediate c
     unfolding jump_target distance_by
     immediate true u h s = rw (number_of_lem f, near v u h) (from_here (pos v) (rw (near v u h) at s))
@@ -129,28 +128,28 @@ module _ (el : ℕ → Option Elem) (pool : ConstantPool) (same : SamePool el po
 
 -- the table of a switch, at any scale
 module _ (i : Instr) (start n : ℕ) (few : n ≤ 4096) where
-  smi_table : (c : ℤ) → wrap32 c ≡ c → operand_of i 0 ≡ Idx start → operand_of i 1 ≡ Idx n → operand_of i 2 ≡ Imm c
+  smi_table : (c : ℤ) → wrap32 c ≡ c → operand_of i 0 ≡ Some (Idx start) → operand_of i 1 ≡ Some (Idx n) → operand_of i 2 ≡ Some (Imm c)
       → jump_table true (switch_flow switch_on_smi_no_feedback) i ≡ Ok (Some (record { start = start; count = n; base = c }))
   unfolding jump_table table_by sized_by index_of operand_of
   smi_table c w f g k = rw (index_of_lem f, number_of_lem g, base_of_lem k, le-leb n 4096 few, w)
 
-  generator_table : operand_of i 1 ≡ Idx start → operand_of i 2 ≡ Idx n
+  generator_table : operand_of i 1 ≡ Some (Idx start) → operand_of i 2 ≡ Some (Idx n)
       → jump_table true (switch_flow switch_on_generator_state) i ≡ Ok (Some (record { start = start; count = n; base = pos 0 }))
   unfolding jump_table table_by sized_by wrap32 modulo index_of operand_of
   generator_table f g = rw (index_of_lem f, number_of_lem g, le-leb n 4096 few)
 
 -- ---- the instruction that is decoded
 module _ (offset opcode scale end : ℕ) where
-  records_at : (n k : ℕ) (os : List Operand) → k < n → (get_or (records_of n os) k (record { operand = Nothing })).operand ≡ get_or os k Nothing
-  records_at zero k os h = absurd (not-suc-le-zero h)
-  records_at (suc n) zero [] h = refl
-  records_at (suc n) zero (o ∷ os) h = refl
-  records_at (suc n) (suc k) [] h = records_at n k [] (le_of_suc-le-suc h)
-  records_at (suc n) (suc k) (o ∷ os) h = records_at n k os (le_of_suc-le-suc h)
+  places_at : (n k : ℕ) (os : List Operand) → k < n → (get_or (places_of n os) k (record_of None)).operand ≡ get_or (map Some os) k None
+  places_at zero k os h = absurd (not-suc-le-zero h)
+  places_at (suc n) zero [] h = refl
+  places_at (suc n) zero (o ∷ os) h = refl
+  places_at (suc n) (suc k) [] h = places_at n k [] (le_of_suc-le-suc h)
+  places_at (suc n) (suc k) (o ∷ os) h = places_at n k os (le_of_suc-le-suc h)
 
-  operand_at : (k : ℕ) (os : List Operand) → k < 8 → k < length os → operand_of (instr_of offset opcode scale end os) k ≡ get_or os k Nothing
+  operand_at : (k : ℕ) (os : List Operand) → k < 8 → k < length os → operand_of (instr_of offset opcode scale end os) k ≡ get_or (map Some os) k None
   unfolding operand_of
-  operand_at k os h l = let m : k < min (length os) 8 = omega arith in rw (lt-ltb k (min (length os) 8) m) (records_at 8 k os h)
+  operand_at k os h l = let m : k < min (length os) 8 = omega arith in rw (lt-ltb k (min (length os) 8) m) (places_at 8 k os h)
 
 -- V8's instruction takes a byte or more
 size_one : (ts : List OperandType) (scale : ℕ) → 1 ≤ size ts scale
@@ -163,7 +162,7 @@ module _ (b : Bytecodes) (code : List ℕ) (ops : Opcodes) (types : List ℕ) (r
     (form : V8Form b ops types (get_or code offset 0) (current_bytecode b code offset)) (held : length code ≤ 2 ^ 31)
     (el : ℕ → Option Elem) (pool : ConstantPool) (same : SamePool el pool) where
   abbrev instr : Instr
-  instr = (decodes code ops types rfs offset).instr
+  instr = instr_in (decodes code ops types rfs offset)
 
   abbrev prefix : ℕ
   prefix = prefix_size b code offset
@@ -175,7 +174,7 @@ module _ (b : Bytecodes) (code : List ℕ) (ops : Opcodes) (types : List ℕ) (r
   told ts = instr_of offset (current_bytecode b code offset) (operand_scale b code offset) (next_offset b code offset) (shown_from z rfs false 0 ts)
 
   instr_is : (ts : List OperandType) → current_types b code offset ≡ ts → instr ≡ told ts
-  instr_is ts e = ap (λ (d : Decoded). d.instr) (v8_decoding b code ops types rfs offset bytes fits form) ∙ ap told e
+  instr_is ts e = ap instr_in (v8_decoding b code ops types rfs offset bytes fits form) ∙ ap told e
 
   -- distances count from behind the prefix
   here_is : (ts : List OperandType) → here (told ts) ≡ offset + prefix
@@ -192,7 +191,7 @@ module _ (b : Bytecodes) (code : List ℕ) (ops : Opcodes) (types : List ℕ) (r
       go true false l = mod-eq_of_lt l
       go false w l = mod-eq_of_lt l
 
-  at : (ts : List OperandType) (k : ℕ) → k < 8 → k < length (shown_from z rfs false 0 ts) → operand_of (told ts) k ≡ get_or (shown_from z rfs false 0 ts) k Nothing
+  at : (ts : List OperandType) (k : ℕ) → k < 8 → k < length (shown_from z rfs false 0 ts) → operand_of (told ts) k ≡ get_or (map Some (shown_from z rfs false 0 ts)) k None
   at ts k h l = operand_at offset (current_bytecode b code offset) (operand_scale b code offset) (next_offset b code offset) k (shown_from z rfs false 0 ts) h l
 
   -- a jump goes where V8's does

@@ -3,8 +3,9 @@
 use Rattle.std.specs.Prelude.{ℕ, ◌+◌, ◌%◌, ◌^◌, min, Bool, true, false, cond, List, ℤ, pos, negsuc, ◌+ℤ◌, ◌-ℤ◌, nat_le, nat_lt, slice_index_or, unsigned_abs}
 use Rattle.words.specs.Signed.{modulo, wrap32}
 use Rattle.operand.specs.declared.Operand.{Operand}
-use Rattle.operand.specs.declared.Operand.TheVariants.{Nothing, Reg, RegList, Imm, Idx, Flag8, Flag16, RuntimeId, IntrinsicId, Raw}
+use Rattle.operand.specs.declared.Operand.TheVariants.{Reg, RegList, Imm, Idx, Flag8, Flag16, RuntimeId, IntrinsicId, Raw}
 use Rattle.decoder.specs.declared.Instr.{Instr}
+use Rattle.decoder.specs.Decode.{record_of}
 use Rattle.flow.specs.declared.Kind.{Kind}
 use Rattle.flow.specs.declared.Kind.TheVariants.{On, Ends, Jumps, Branches, JumpsBack, Switch}
 use Rattle.flow.specs.declared.Flow.{Flow}
@@ -27,37 +28,37 @@ found (Some p) = true
 found None = false
 
 -- operand k of an instruction
-unfoldable pub operand_of : Instr → ℕ → Operand
-operand_of i k = cond (nat_lt k (min i.count 8)) (slice_index_or i.operands k (record { operand = Nothing })).operand Nothing
+unfoldable pub operand_of : Instr → ℕ → Option Operand
+operand_of i k = cond (nat_lt k (min i.count 8)) (slice_index_or i.operands k (record_of None)).operand None
 
 -- 01: "It counts from the opcode byte behind any prefix."
 abbrev pub here : Instr → ℕ
 here i = (i.offset + cond (nat_lt 1 i.scale) 1 0) % 2 ^ 64
 
 -- an index operand, and a number that an operand of the right kind holds
-unfoldable pub index_of : Operand → Option ℕ
-index_of (Idx v) = Some v
-index_of Nothing = None
-index_of (Reg r) = None
-index_of (RegList f n) = None
-index_of (Imm v) = None
-index_of (Flag8 v) = None
-index_of (Flag16 v) = None
-index_of (RuntimeId v) = None
-index_of (IntrinsicId v) = None
-index_of (Raw t v) = None
+unfoldable pub index_of : Option Operand → Option ℕ
+index_of (Some (Idx v)) = Some v
+index_of (Some (Reg r)) = None
+index_of (Some (RegList f n)) = None
+index_of (Some (Imm v)) = None
+index_of (Some (Flag8 v)) = None
+index_of (Some (Flag16 v)) = None
+index_of (Some (RuntimeId v)) = None
+index_of (Some (IntrinsicId v)) = None
+index_of (Some (Raw t v)) = None
+index_of None = None
 
-unfoldable pub number_of : Operand → Option ℤ
-number_of (Idx v) = Some (pos v)
-number_of (Imm v) = Some v
-number_of Nothing = None
-number_of (Reg r) = None
-number_of (RegList f n) = None
-number_of (Flag8 v) = None
-number_of (Flag16 v) = None
-number_of (RuntimeId v) = None
-number_of (IntrinsicId v) = None
-number_of (Raw t v) = None
+unfoldable pub number_of : Option Operand → Option ℤ
+number_of (Some (Idx v)) = Some (pos v)
+number_of (Some (Imm v)) = Some v
+number_of (Some (Reg r)) = None
+number_of (Some (RegList f n)) = None
+number_of (Some (Flag8 v)) = None
+number_of (Some (Flag16 v)) = None
+number_of (Some (RuntimeId v)) = None
+number_of (Some (IntrinsicId v)) = None
+number_of (Some (Raw t v)) = None
+number_of None = None
 
 -- "that pool element, a small integer"
 abbrev pub smi_of : Option Elem → Option ℤ
@@ -73,7 +74,7 @@ elem_number el (Some v) = smi_of (el v)
 elem_number el None = None
 
 -- "distance is the first operand, or, where the plain name ends in Constant, that pool element"
-unfoldable pub distance_by : (ℕ → Option Elem) → Bool → Operand → Option ℤ
+unfoldable pub distance_by : (ℕ → Option Elem) → Bool → Option Operand → Option ℤ
 distance_by el from-pool op = cond from-pool (elem_number el (index_of op)) (number_of op)
 
 -- "The value is kept modulo 2^64"
@@ -122,7 +123,7 @@ is_switch Branches = false
 is_switch JumpsBack = false
 is_switch Switch = true
 
-abbrev pub base_of : Bool → Operand → Option ℤ
+abbrev pub base_of : Bool → Option Operand → Option ℤ
 base_of based op = cond based (number_of op) (Some (pos 0))
 
 -- Wish 1: "entries for both switch names under either prefix", so at every scale

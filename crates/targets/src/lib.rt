@@ -112,12 +112,19 @@ pub fn jump_target_in(
     }
     let op = operand_of(instr, flow.first);
     if !flow.pool {
-        return target_by(kind, here(instr), number_of(op)?);
+        let Some(d) = number_of(op) else {
+            return None;
+        };
+        return target_by(kind, here(instr), d);
     }
-    let n = index_of(op)? as u64;
-    let p = pool?;
+    let Some(Operand::Idx(n)) = op else {
+        return None;
+    };
+    let Some(p) = pool else {
+        return None;
+    };
     let Some(Elem::Smi(d)) = serializer::array_elem_in(
-        slots, payload, blocks, p.first, p.count, ts, n,
+        slots, payload, blocks, p.first, p.count, ts, n as u64,
     ) else {
         return None;
     };
@@ -161,7 +168,7 @@ pub fn jump_entry_unchecked(
     jump_entry_in(slots, payload, &none, ts, pool, at, e, k)
 }
 
-#[tactic(auto, unfolding(crate::specs::Targets::entry_at))]
+#[tactic(auto, using(words::proofs::Signs::add_wraps), unfolding(crate::specs::Targets::entry_at))]
 pub fn jump_entry_in(
     slots: &[u8],
     payload: &[u8],
@@ -180,7 +187,7 @@ pub fn jump_entry_in(
         return None;
     };
     Some(Case {
-        case: words::wrapping_add_i32(e.base, words::signed32(k as u32)),
+        case: e.base.wrapping_add(i32::from(k)),
         target: words::target_after(at, v),
     })
 }
@@ -195,42 +202,39 @@ pub fn here(instr: Instr) -> u64
 
 // Operand k of an instruction.
 #[tactic(auto, unfolding(crate::specs::Targets::operand_of))]
-pub fn operand_of(instr: Instr, k: u8) -> Operand
+pub fn operand_of(instr: Instr, k: u8) -> Option<Operand>
     ensures { result ≡ operand_of instr k }
 {
     let at = k as usize;
     if 8 <= at || instr.count <= at {
-        return Operand::Nothing;
+        return None;
     }
     instr.operands[at].operand
 }
 
 // The operand n behind operand k.
 #[tactic(auto, unfolding(crate::specs::Targets::operand_of))]
-fn operand_after(instr: Instr, k: u8, n: u8) -> Operand
+fn operand_after(instr: Instr, k: u8, n: u8) -> Option<Operand>
     ensures { result ≡ operand_of instr (k + n) }
 {
-    let Some(at) = k.checked_add(n) else {
-        return Operand::Nothing;
-    };
-    operand_of(instr, at)
+    operand_of(instr, k.checked_add(n)?)
 }
 
 #[tactic(auto, unfolding(crate::specs::Targets::index_of))]
-fn index_of(op: Operand) -> Option<u32>
+fn index_of(op: Option<Operand>) -> Option<u32>
     ensures { result ≡ index_of op }
 {
-    let Operand::Idx(v) = op else {
-        return None;
-    };
-    Some(v)
+    match op? {
+        Operand::Idx(v) => Some(v),
+        _ => None,
+    }
 }
 
 #[tactic(auto, unfolding(crate::specs::Targets::number_of))]
-fn number_of(op: Operand) -> Option<i64>
+fn number_of(op: Option<Operand>) -> Option<i64>
     ensures { result ≡ number_of op }
 {
-    match op {
+    match op? {
         Operand::Idx(v) => Some(v as i64),
         Operand::Imm(v) => Some(v),
         _ => None,
@@ -262,7 +266,7 @@ fn is_switch(kind: Kind) -> bool
 }
 
 // The case base of a switch.
-fn base_of(based: bool, op: Operand) -> Option<i64>
+fn base_of(based: bool, op: Option<Operand>) -> Option<i64>
     ensures { result ≡ base_of based op }
 {
     if based { number_of(op) } else { Some(0) }

@@ -1,4 +1,5 @@
 // How many calls there were of each function, and how many answers differed.
+use crate::calls::{CALLS, Call};
 
 #[derive(Clone, Copy)]
 pub enum Outcome {
@@ -8,35 +9,61 @@ pub enum Outcome {
     NotHere,
 }
 
-// Calls, differences and the first call that differs, by row: a function's number, or a call for C (`lines` names them). A call's number
-// counts from 1 in its file.
+impl From<bool> for Outcome {
+    fn from(same: bool) -> Outcome {
+        if same {
+            Outcome::Same
+        } else {
+            Outcome::Differs
+        }
+    }
+}
+
+// The answers of a call: how many, how many of them differ, and the number of the first that differs. A call's number counts from 1 in
+// its file.
+#[derive(Clone, Copy)]
+pub struct Row {
+    pub calls: u64,
+    pub differences: u64,
+    pub first: u64,
+}
+
+// Calls asked, and how many answers differed.
+#[derive(Clone, Copy)]
+pub struct Total {
+    pub calls: u64,
+    pub differences: u64,
+}
+
+// A row for each call, and one for what is no call of a known function.
 #[derive(Clone, Copy)]
 pub struct Counts {
-    pub calls: [u64; 40],
-    pub differences: [u64; 40],
-    pub first: [u64; 40],
+    pub rows: [Row; CALLS],
+    pub unknown: Row,
     pub number: u64,
-    pub asked: u64,
-    pub differing: u64,
+    pub total: Total,
     pub not_here: u64,
     // Codes of calls that ask many.
     pub codes: u64,
 }
 
-// The row of what is no call of a known function.
-pub const UNKNOWN: u8 = 39;
+const NO_ROW: Row = Row {
+    calls: 0,
+    differences: 0,
+    first: 0,
+};
+
+pub const NO_TOTAL: Total = Total {
+    calls: 0,
+    differences: 0,
+};
 
 pub fn no_counts() -> Counts {
-    let calls = [0u64; 40];
-    let differences = [0u64; 40];
-    let first = [0u64; 40];
     Counts {
-        calls,
-        differences,
-        first,
+        rows: [NO_ROW; CALLS],
+        unknown: NO_ROW,
         number: 0,
-        asked: 0,
-        differing: 0,
+        total: NO_TOTAL,
         not_here: 0,
         codes: 0,
     }
@@ -44,67 +71,61 @@ pub fn no_counts() -> Counts {
 
 // The next call of the file is looked at.
 pub fn numbered(mut counts: Counts) -> Counts {
-    counts.number = more(counts.number);
+    counts.number = counts.number.saturating_add(1);
     counts
 }
 
-pub fn judged(same: bool) -> Outcome {
-    if same {
-        Outcome::Same
-    } else {
-        Outcome::Differs
-    }
-}
-
-// One more answer in a row.
-pub fn counted(counts: Counts, row: u8, outcome: Outcome) -> Counts {
-    let i = place(row);
+// One more answer of a call.
+pub fn counted(mut counts: Counts, call: Call, outcome: Outcome) -> Counts {
     match outcome {
-        Outcome::Same => with_call(counts, i),
-        Outcome::Differs => with_difference(with_call(counts, i), i),
-        Outcome::NotHere => with_not_here(counts),
+        Outcome::Same => answered(counts, call, false),
+        Outcome::Differs => answered(counts, call, true),
+        Outcome::NotHere => {
+            counts.not_here = counts.not_here.saturating_add(1);
+            counts
+        }
     }
 }
 
-// An item that sets no file and is no call.
+// An item that sets no file and is no call of a known function.
 pub fn with_unknown(counts: Counts) -> Counts {
-    counted(numbered(counts), UNKNOWN, Outcome::Differs)
+    unasked(numbered(counts))
+}
+
+// A call of a function that no program has here.
+pub fn unasked(mut counts: Counts) -> Counts {
+    counts.unknown = with_answer(counts.unknown, true, counts.number);
+    counts.total = with_one(counts.total, true);
+    counts
 }
 
 pub fn with_codes(mut counts: Counts, codes: u64) -> Counts {
-    counts.codes = std::num::wrapping_add_u64(counts.codes, codes);
+    counts.codes = counts.codes.wrapping_add(codes);
     counts
 }
 
-fn place(row: u8) -> usize {
-    if row < UNKNOWN { row as usize } else { 39 }
-}
-
-// One more, up to the greatest number.
-fn more(n: u64) -> u64 {
-    if n < 18446744073709551615 { n + 1 } else { n }
-}
-
-fn with_not_here(mut counts: Counts) -> Counts {
-    counts.not_here = more(counts.not_here);
+fn answered(mut counts: Counts, call: Call, differs: bool) -> Counts {
+    let i = call as usize;
+    counts.rows[i] = with_answer(counts.rows[i], differs, counts.number);
+    counts.total = with_one(counts.total, differs);
     counts
 }
 
-fn with_call(mut counts: Counts, row: usize) -> Counts {
-    counts.asked = more(counts.asked);
-    if row < 40 {
-        counts.calls[row] = more(counts.calls[row]);
+fn with_answer(row: Row, differs: bool, number: u64) -> Row {
+    Row {
+        calls: row.calls.saturating_add(1),
+        differences: row.differences.saturating_add(u64::from(differs)),
+        first: if differs && row.differences == 0 {
+            number
+        } else {
+            row.first
+        },
     }
-    counts
 }
 
-fn with_difference(mut counts: Counts, row: usize) -> Counts {
-    counts.differing = more(counts.differing);
-    if row < 40 {
-        if counts.differences[row] == 0 {
-            counts.first[row] = counts.number;
-        }
-        counts.differences[row] = more(counts.differences[row]);
+fn with_one(total: Total, differs: bool) -> Total {
+    Total {
+        calls: total.calls.saturating_add(1),
+        differences: total.differences.saturating_add(u64::from(differs)),
     }
-    counts
 }

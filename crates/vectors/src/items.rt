@@ -2,17 +2,40 @@
 ghost use Rattle.std.specs.Prelude.{◌≡◌, ◌-◌, ◌<◌, length, take, drop};
 ghost use Rattle.std.specs.Iterator.{at_most};
 
-// A part of the vector file.
+use crate::calls::{Call, FILES, File, Unknown};
+
+// A part of the vector file; a serializer's `Span` is one of a payload.
 #[derive(Clone, Copy)]
 pub struct Part {
     pub at: usize,
     pub len: usize,
 }
 
-// One item: its kind, its body, and where the next item starts.
+// What an item does: it sets a file to its body, or to the part of the vector file that its body names, or it is a call.
+#[derive(Clone, Copy)]
+pub enum Kind {
+    Sets(File),
+    Names(File),
+    Call(Call),
+}
+
+// By an item's first byte.
+impl TryFrom<u8> for Kind {
+    type Error = Unknown;
+
+    fn try_from(byte: u8) -> Result<Kind, Unknown> {
+        match byte {
+            0..=15 => File::try_from(byte).map(Kind::Sets),
+            16..=31 => File::try_from(byte - 16).map(Kind::Names),
+            32..=255 => Call::try_from(byte - 32).map(Kind::Call),
+        }
+    }
+}
+
+// One item: its kind where it has one, its body, and where the next item starts.
 #[derive(Clone, Copy)]
 pub struct Item {
-    pub kind: u8,
+    pub kind: Option<Kind>,
     pub body: Part,
     pub next: usize,
 }
@@ -48,23 +71,11 @@ impl<'a> Iterator for Items<'a> {
     }
 }
 
-// Where in the vector file the eight record files, the lent code (8) and the handler records (9) are.
+// Where in the vector file each file is.
 #[derive(Clone, Copy)]
 pub struct Files {
-    pub at: [usize; 10],
-    pub len: [usize; 10],
+    pub parts: [Part; FILES],
 }
-
-// What an item is: it sets a file, the code or the handlers, it is a call of a function, or neither.
-#[derive(Clone, Copy)]
-pub enum What {
-    Sets,
-    Call(u8),
-    Unknown,
-}
-
-// A kind that no item has: what is left is no whole item.
-const CUT: u8 = 255;
 
 // The item at a place; it ends behind that place.
 pub fn item_at(bytes: &[u8], at: usize) -> Item
@@ -84,18 +95,26 @@ pub fn item_at(bytes: &[u8], at: usize) -> Item
     }
     let body = Part { at: at + 5, len };
     Item {
-        kind: words::byte_at(bytes, at),
+        kind: kind_at(bytes, at, len),
         body,
         next: at + 5 + len,
     }
 }
 
+// The kind of an item with a body of len bytes; a part is named by eight.
+fn kind_at(bytes: &[u8], at: usize, len: usize) -> Option<Kind> {
+    Kind::try_from(words::byte_at(bytes, at))
+        .ok()
+        .filter(|kind| len == 8 || !matches!(kind, Kind::Names(_)))
+}
+
+// What is left is no whole item.
 fn cut(size: usize) -> Item
     ensures { result.next ≡ size }
 {
     let body = Part { at: size, len: 0 };
     Item {
-        kind: CUT,
+        kind: None,
         body,
         next: size,
     }
@@ -103,36 +122,18 @@ fn cut(size: usize) -> Item
 
 // No file has contents.
 pub fn no_files() -> Files {
-    let at = [0usize; 10];
-    let len = [0usize; 10];
-    Files { at, len }
-}
-
-pub fn kind_of(item: Item) -> What {
-    let kind = item.kind;
-    let body = item.body;
-    match kind {
-        0..=9 => What::Sets,
-        16..=25 => {
-            if body.len == 8 {
-                What::Sets
-            } else {
-                What::Unknown
-            }
-        }
-        32..=254 => What::Call(kind - 32),
-        _ => What::Unknown,
+    let part = Part { at: 0, len: 0 };
+    Files {
+        parts: [part; FILES],
     }
 }
 
 // The files behind an item: one that it sets is its body, or the part that its body names.
 pub fn files_after(bytes: &[u8], files: Files, item: Item) -> Files {
-    let kind = item.kind;
-    let body = item.body;
-    match kind {
-        0..=9 => with_file(files, kind, body),
-        16..=25 => with_file(files, kind - 16, named_part(bytes, body)),
-        _ => files,
+    match item.kind {
+        Some(Kind::Sets(file)) => with_file(files, file, item.body),
+        Some(Kind::Names(file)) => with_file(files, file, named_part(bytes, item.body)),
+        Some(Kind::Call(_)) | None => files,
     }
 }
 
@@ -145,27 +146,14 @@ fn named_part(bytes: &[u8], body: Part) -> Part {
     }
 }
 
-fn with_file(files: Files, k: u8, part: Part) -> Files {
-    let mut out = files;
-    let i = k as usize;
-    if i < 10 {
-        out.at[i] = part.at;
-        out.len[i] = part.len;
-    }
-    out
+fn with_file(mut files: Files, file: File, part: Part) -> Files {
+    files.parts[file as usize] = part;
+    files
 }
 
-// The contents of file k.
-pub fn file<'a>(bytes: &'a [u8], files: Files, k: u8) -> &'a [u8] {
-    let i = k as usize;
-    if i < 10 {
-        let part = Part {
-            at: files.at[i],
-            len: files.len[i],
-        };
-        return lent(bytes, part);
-    }
-    &bytes[0..0]
+// The contents of a file.
+pub fn contents<'a>(bytes: &'a [u8], files: Files, file: File) -> &'a [u8] {
+    lent(bytes, files.parts[file as usize])
 }
 
 // A part of s, as far as s reaches.

@@ -12,58 +12,26 @@ pub fn is_end(said: &[u8]) -> bool {
     has_form(said, 3, 1)
 }
 
-// Status 1 with no numbers, one, two, three, five.
-
+// Status 1 and no numbers.
 pub fn is_done(said: &[u8]) -> bool {
     has_form(said, 1, 1)
 }
 
-pub fn is_number(said: &[u8], a: u64) -> bool {
-    if !has_form(said, 1, 9) {
-        return false;
-    }
-    words::u64_at(said, 1) == a
-}
-
-pub fn is_numbers_2(said: &[u8], a: u64, b: u64) -> bool {
-    if !has_form(said, 1, 17) {
-        return false;
-    }
-    are_2(said, 1, a, b)
-}
-
-pub fn is_numbers_3(said: &[u8], a: u64, b: u64, c: u64) -> bool {
-    if !has_form(said, 1, 25) {
-        return false;
-    }
-    are_3(said, 1, a, b, c)
-}
-
-pub fn is_numbers_5(said: &[u8], a: u64, b: u64, c: u64, d: u64, e: u64) -> bool {
-    if !has_form(said, 1, 41) {
-        return false;
-    }
-    if !are_2(said, 1, a, b) {
-        return false;
-    }
-    are_3(said, 17, c, d, e)
+// Status 1 and these numbers.
+pub fn is_numbers(said: &[u8], numbers: &[u64]) -> bool {
+    has_form(said, 1, numbers.len().saturating_mul(8).saturating_add(1))
+        && are_numbers(said, 1, numbers)
 }
 
 // Status 1 and the first n bytes of out.
 pub fn is_text(said: &[u8], out: &[u8], n: usize) -> bool {
-    if words::byte_at(said, 0) != 1 {
-        return false;
-    }
-    is_start(behind(said, 1), out, n)
+    words::byte_at(said, 0) == 1 && is_start(behind(said, 1), out, n)
 }
 
 // The first n bytes of out.
 pub fn is_start(text: &[u8], out: &[u8], n: usize) -> bool {
-    if out.len() < n {
-        return false;
-    }
     let part = Part { at: 0, len: n };
-    check::same(text, lent(out, part))
+    n <= out.len() && check::same(text, lent(out, part))
 }
 
 // Status 2: number and place.
@@ -73,7 +41,7 @@ pub fn is_refused(said: &[u8], refusal: Refusal) -> bool {
 
 // The same of a refusal that C is told.
 pub fn is_refused_by(said: &[u8], number: u8, place: usize) -> bool {
-    has_form(said, 2, 17) && are_2(said, 1, number as u64, place as u64)
+    has_form(said, 2, 17) && are_numbers(said, 1, &[u64::from(number), place as u64])
 }
 
 // A check: done, or its refusal.
@@ -86,26 +54,19 @@ pub fn is_check(said: &[u8], check: Result<(), Refusal>) -> bool {
 
 // The status, and the length of the whole.
 pub fn has_form(said: &[u8], status: u8, len: usize) -> bool {
-    if said.len() != len {
-        return false;
-    }
-    words::byte_at(said, 0) == status
+    said.len() == len && words::byte_at(said, 0) == status
 }
 
-// The three numbers from place at on.
-pub fn are_3(said: &[u8], at: usize, a: u64, b: u64, c: u64) -> bool {
-    if !are_2(said, at, a, b) {
-        return false;
+// These numbers from place at on.
+pub fn are_numbers(said: &[u8], at: usize, numbers: &[u64]) -> bool {
+    let mut at = at;
+    for &number in numbers {
+        if words::u64_at(said, at) != number {
+            return false;
+        }
+        at = text::saturating_add(at, 8);
     }
-    words::u64_at(said, text::saturating_add(at, 16)) == c
-}
-
-// The two numbers from place at on.
-pub fn are_2(said: &[u8], at: usize, a: u64, b: u64) -> bool {
-    if words::u64_at(said, at) != a {
-        return false;
-    }
-    words::u64_at(said, text::saturating_add(at, 8)) == b
+    true
 }
 
 // The bytes of a buffer from a place on are as they were before the call: all 7.
@@ -114,3 +75,25 @@ pub fn are_kept(buffer: &[u8], from: usize) -> bool {
 }
 
 const KEPT: u8 = 7;
+
+// What a call for C answers with that is no refusal.
+#[derive(Clone, Copy)]
+pub enum Status {
+    Done,
+    Leaves,
+    CodeEnd,
+}
+
+// By its number; any other number is a refusal's.
+impl TryFrom<u8> for Status {
+    type Error = u8;
+
+    fn try_from(number: u8) -> Result<Status, u8> {
+        match number {
+            0 => Ok(Status::Done),
+            254 => Ok(Status::Leaves),
+            255 => Ok(Status::CodeEnd),
+            _ => Err(number),
+        }
+    }
+}

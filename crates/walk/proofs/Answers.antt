@@ -1,5 +1,5 @@
 -- From what the search answers to the call's equation, and from the equation to demand 3. Assumes nothing.
-use Prim.Native.Nat.{ℕ, zero, suc, ◌≤◌}
+use Prim.Native.Nat.{ℕ, ◌≤◌}
 use mathlib.Core.Path.{◌≡◌, refl, sym, ap, subst, ◌∙◌}
 use mathlib.Core.List.{List, ◌++◌}
 use native.Mathlib.Omega.{arith}
@@ -8,11 +8,8 @@ use Rattle.refusal.specs.declared.Refusal.{Refusal}
 use Rattle.std.specs.Prelude.{Result, Ok, Err}
 use Rattle.refusal.specs.Check.{Check}
 use Rattle.refusal.specs.Check.{guarded_on}
-use Rattle.decoder.specs.declared.Outcome.{Outcome}
-use Rattle.decoder.specs.declared.Decoded.{Decoded}
-use Rattle.decoder.specs.Listed.{list_on, list_from, decodes}
-use Rattle.function.specs.Code.{code_check, listing_check}
-use Rattle.refusal.proofs.Laws.{never, or_left}
+use Rattle.function.specs.Code.{listing_check}
+use Rattle.refusal.proofs.Laws.{or_left}
 use Rattle.graph.specs.Graph.{Finding, Answer, finding, mark_list}
 use Rattle.graph.specs.Graph.Finding.{closed, leaves}
 use Rattle.graph.proofs.Answers.{computed}
@@ -26,19 +23,6 @@ use Rattle.steps.proofs.Keeps.{keeps_found}
 use Rattle.walk.specs.Walk.{answer, walk_check, walk_found, walk_source, Promise}
 use Rattle.walk.specs.mirror.Search.{Started, WalkedBy}
 
--- a listing that no fault ended came to the code's end
-list_ends : (d : ℕ → Decoded) (f at : ℕ) → code_check (list_from d f at).outcome ≡ Ok tt → (list_from d f at).outcome ≡ Outcome.End
-unfolding list_from
-list_ends d zero at ok = refl
-list_ends d (suc f) at ok = go (d at).outcome ok (list_ends d f (d at).instr.end)
-  where
-    go : (o : Outcome) → code_check (list_on o (d at).instr (list_from d f (d at).instr.end)).outcome ≡ Ok tt
-        → (code_check (list_from d f (d at).instr.end).outcome ≡ Ok tt → (list_from d f (d at).instr.end).outcome ≡ Outcome.End)
-        → (list_on o (d at).instr (list_from d f (d at).instr.end)).outcome ≡ Outcome.End
-    go Outcome.End ok rest = refl
-    go (Outcome.Refused r) ok rest = never r ok
-    go Outcome.Done ok rest = rest ok
-
 -- what the search answers is the answer of its finding
 answer_is : (r : Walked) → Ok r ≡ answer (finding_as r)
 answer_is walked.Closed = refl
@@ -48,11 +32,9 @@ module _ (s : Source) where
   abbrev whole : Check
   whole = listing_check s.opcodes s.pooled (listing s)
 
-  no_fault : whole ≡ Ok tt → code_check (listing s).outcome ≡ Ok tt
-  no_fault ok = or_left (code_check (listing s).outcome) _ ok
-
-  pub ended : whole ≡ Ok tt → (listing s).outcome ≡ Outcome.End
-  ended ok = list_ends (decodes s.code s.opcodes s.types s.rfs) (suc (length s.code)) 0 (no_fault ok)
+  -- the listing came to the code's end
+  pub ended : whole ≡ Ok tt → (listing s).check ≡ Ok tt
+  ended ok = or_left (listing s).check _ ok
 
   -- ---- the call, by what the checks said
   module _ (M : List ℕ) where
@@ -70,7 +52,7 @@ module _ (s : Source) where
     unfolding walk_source
     source_found catches {heads} {words} {Y} {n} r ok few all as_many k c f =
         let fine = or_left whole _ (sym ok) in
-        let x = keeps_found s heads words catches (k.keeps (no_fault fine)) c few (omega (arith, few, all, as_many)) (ended fine) n r Y f in
+        let x = keeps_found s heads words catches (k.keeps (ended fine)) c few (omega (arith, few, all, as_many)) (ended fine) n r Y f in
         subst (Checked (Ok r) (Y ++ drop (length s.code) M)) ok
         (answer_is r ∙ ap answer x.0, ap (λ (y : List ℕ). y ++ drop (length s.code) M) (x.1 ∙ ap (mark_list (walk_graph s) (finding (walk_graph s))) all))
 

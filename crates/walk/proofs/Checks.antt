@@ -13,7 +13,8 @@ use Rattle.refusal.specs.Check.{Check}
 use Rattle.refusal.specs.declared.Fault.TheVariants as fault
 use Rattle.refusal.specs.Check.{first_refusal, refuse_unless}
 use Rattle.refusal.proofs.Laws.{or_left, or_right, good_is}
-use Rattle.tables.specs.Records.{prefix_op}
+use Rattle.tables.specs.Records.{prefixes_of}
+use Rattle.tables.specs.declared.Prefixes.{Prefixes}
 use Rattle.flow.specs.Flow.{is_return}
 use Rattle.flow.specs.Opcodes.{opcodes_of}
 use Rattle.function.specs.declared.Function.{Function}
@@ -99,14 +100,14 @@ module _ (code ops types slots payload hs : List ℕ) (f : Function) where
   }
 
   -- a table of the words at each place has those of the instructions
-  catches_of : (catches : List ℕ) → Prefixed ops f → Caught code ops hs f.wide f.extra catches → Catches source catches
-  catches_of catches p c o l done = c o l ∙ ap (λ (op : ℕ). catch_word hs (is_return ops op) o) (opcodes ∙ sym (opcode_is code (opcodes_of ops) types f.frame.reg_file_start (prefix_op ops 1) (prefix_op ops 2) o done))
+  catches_of : (catches : List ℕ) → Prefixed ops f → Caught code ops hs f.prefixes catches → Catches source catches
+  catches_of catches p c o l done = c o l ∙ ap (λ (op : ℕ). catch_word hs (is_return ops op) o) (opcodes ∙ sym (opcode_is code (opcodes_of ops) types f.frame.reg_file_start (prefixes_of ops) o done))
     where
-      opcodes : opcode_at code f.wide f.extra o ≡ opcode_at code (prefix_op ops 1) (prefix_op ops 2) o
-      opcodes = ap (λ (a : ℕ). opcode_at code a f.extra o) p.wide ∙ ap (λ (b : ℕ). opcode_at code (prefix_op ops 1) b o) p.extra
+      opcodes : opcode_at code f.prefixes o ≡ opcode_at code (prefixes_of ops) o
+      opcodes = ap (λ (a : Prefixes). opcode_at code a o) p
 
   -- what a search over both finds is the call's answer
   pub found_with : (M catches : List ℕ) {heads words Y : List ℕ} {n : ℕ} {kept : Check} (r : Walked) → Ok tt ≡ walk_check source (length M) → length code ≤ 65536 → n ≡ length code → length heads ≡ n
-      → Prefixed ops f → Started (source_of code ops types slots payload [] f) heads words kept → Caught code ops hs f.wide f.extra catches
+      → Prefixed ops f → Started (source_of code ops types slots payload [] f) heads words kept → Caught code ops hs f.prefixes catches
       → IsFound (kept_graph source.elem heads words catches) n r Y → WalkedBy (walk_source source M) (Ok r) (Y ++ drop (length code) M)
   found_with M catches r ok few all as_many p k c found = source_found source M catches r ok few all as_many (started_with k) (catches_of catches p c) found

@@ -1,7 +1,7 @@
 -- The pass that keeps the instructions of a code: what holds at each of them, and what its end says. Assumes nothing.
 use Prim.Native.Nat.{ℕ, suc, ◌-◌, ◌<◌}
 use mathlib.Core.Path.{◌≡◌, refl, sym, ap, subst, ◌∙◌}
-use mathlib.Core.Bool.{Bool, true, false, cond, not, ◌||◌}
+use mathlib.Core.Bool.{Bool, true, false, not, ◌||◌}
 use mathlib.Core.List.{List, map}
 use mathlib.Core.Logic.{⊎_elim}
 use native.Mathlib.Omega.{arith}
@@ -11,14 +11,13 @@ use lib.ListN.{length, get_or, set, length-set}
 use lib.Seq.{get_or-set_same, get_or-set_other}
 use Rattle.laws.proofs.Tests.{same?}
 use Rattle.refusal.specs.declared.Refusal.{Refusal}
-use Rattle.std.specs.Prelude.{Ok, Err}
+use Rattle.std.specs.Prelude.{None, Result, Ok, Err}
 use Rattle.refusal.specs.Check.{Check}
-use Rattle.refusal.specs.declared.Fault.TheVariants as fault
-use Rattle.refusal.specs.Check.{refused, first_refusal}
-use Rattle.decoder.specs.declared.Outcome.{Outcome}
-use Rattle.decoder.specs.declared.Decoded.{Decoded}
+use Rattle.std.specs.Result.{result_and, result_unwrap_or}
+use Rattle.refusal.specs.Check.{first_refusal}
 use Rattle.decoder.specs.declared.Instr.{Instr}
-use Rattle.flow.specs.declared.Flow.{Flow}
+use Rattle.decoder.specs.Decode.{Decoded, Done, instr_in}
+use Rattle.targets.specs.declared.BadSwitch.{BadSwitch}
 use Rattle.targets.specs.Targets.{jump_table}
 use Rattle.function.specs.Code.{table_check}
 use Rattle.function.proofs.Passing.{all_of, rest_of, Going, going_start, going_refused, going_end, going_instrs, going_done}
@@ -26,12 +25,12 @@ use Rattle.graph.specs.Lists.{elem}
 use Rattle.graph.specs.Graph.{is_start}
 use Rattle.steps.specs.declared.Kept.{Kept}
 use Rattle.steps.specs.Steps.{Source, offset, walk_graph}
-use Rattle.steps.specs.mirror.Keeping.{decoded_at, kept_of, kept_at, Holds}
+use Rattle.steps.specs.mirror.Keeping.{kept_on, decoded_at, kept_of, stored, kept_at, Holds}
 use Rattle.steps.proofs.Laws.{refused_is, head_most}
 use Rattle.steps.proofs.Listed.{own_offset}
 use Rattle.steps.proofs.Keeps.{behind}
-use Rattle.walk.specs.mirror.Search.{Clear, Started}
-use Rattle.walk.proofs.Laws.{check_is}
+use Rattle.walk.specs.mirror.Search.{Clear, kept_check, Started}
+use Rattle.walk.proofs.Laws.{kept_is_refused, and_is, stored_is}
 
 or_false : (a : Bool) → (a || false) ≡ a
 or_false true = refl
@@ -85,12 +84,12 @@ module _ (s : Source) where
       record { going = going_start s.opcodes s.pooled d len; starts = λ t. rw (z, no_head H t (c t)) refl; holds = λ t n. absurd (n (c t)); heads = h; words = w }
 
   module _ {H W : List ℕ} {check : Check} {i : ℕ} (m : Keeping H W check i) where
-    pub keeping_refused : (r : Refusal) → (d i).outcome ≡ Outcome.Refused r → Started s H W (Err r)
+    pub keeping_refused : (r : Refusal) → d i ≡ Err r → Started s H W (Err r)
     keeping_refused r e =
         let g = going_refused s.opcodes s.pooled d len m.going r e in
         record { checked = g.0; keeps = λ ok. absurd (g.1 ok) }
 
-    pub keeping_end : (d i).outcome ≡ Outcome.End → Started s H W check
+    pub keeping_end : d i ≡ Ok None → Started s H W check
     unfolding is_start walk_graph
     keeping_end e =
         let g = going_end s.opcodes s.pooled d len m.going e in
@@ -99,14 +98,20 @@ module _ (s : Source) where
           keeps = λ ok. record { starts = λ t. m.starts t ∙ ap (λ (is : List Instr). headed H t || elem t (map offset is)) g.1 ∙ or_false (headed H t); holds = m.holds };
         }
 
-    module _ (done : (d i).outcome ≡ Outcome.Done) where
-      -- the instruction at i, kept
+    module _ (done : Done (d i)) where
+      -- the instruction at i, what is kept of it, and what is stored
+      abbrev x : Instr
+      x = instr_in (d i)
+
+      abbrev kept : Result Kept BadSwitch
+      kept = kept_of s.elem s.pooled (s.opcodes.flow x.opcode) x (x.end - i)
+
       abbrev at_i : Kept
       at_i = kept_at s i
 
       some_head : at_i.head ≡ 0 → ⊥
       unfolding kept_at
-      some_head z = let x = (d i).instr in omega (arith, z, behind s i done, head_most s.elem s.pooled (s.opcodes.flow x.opcode) x (x.end - i))
+      some_head z = omega (arith, z, behind s i done, head_most s.elem s.pooled (s.opcodes.flow x.opcode) x (x.end - i))
 
       in_heads : i < length H
       in_heads = omega (arith, behind s i done, m.heads)
@@ -114,12 +119,11 @@ module _ (s : Source) where
       in_words : i < length W
       in_words = omega (arith, behind s i done, m.words)
 
-      checked : (c' : Check) → c' ≡ first_refusal check (cond at_i.refused (refused fault.BadSwitch i) (Ok tt)) → let x = (d i).instr in c' ≡ first_refusal check (table_check (jump_table s.pooled (s.opcodes.flow x.opcode) x) x.offset)
-      unfolding kept_at
+      checked : (c' : Check) → c' ≡ result_and check (kept_check kept i) → c' ≡ first_refusal check (table_check (jump_table s.pooled (s.opcodes.flow x.opcode) x) x.offset)
       checked c' is =
-          let x = (d i).instr in
           let t = jump_table s.pooled (s.opcodes.flow x.opcode) x in
-          is ∙ ap (first_refusal check) (ap (λ (b : Bool). cond b (refused fault.BadSwitch i) (Ok tt)) (refused_is s.elem s.pooled (s.opcodes.flow x.opcode) x (x.end - i)) ∙ check_is t i ∙ ap (table_check t) (sym (own_offset s.code s.opcodes s.types s.rfs i done)))
+          is ∙ and_is check (kept_check kept i)
+          ∙ ap (first_refusal check) (kept_is_refused kept t i (refused_is s.elem s.pooled (s.opcodes.flow x.opcode) x (x.end - i)) ∙ ap (table_check t) (sym (own_offset s.code s.opcodes s.types s.rfs i done)))
 
       now_holds : (t : ℕ) → (get_or (set H i at_i.head) t 0 ≡ 0 → ⊥) → Holds s (set H i at_i.head) (set W i at_i.word) t
       now_holds t n =
@@ -128,16 +132,16 @@ module _ (s : Source) where
           (λ ne. let h = get_or-set_other H i t at_i.head 0 ne in let x = m.holds t (λ z. n (h ∙ z)) in record { done = x.done; head = h ∙ x.head; word = get_or-set_other W i t at_i.word 0 ne ∙ x.word })
           (same? t i)
 
-      pub keeping_done : (c' : Check) → c' ≡ first_refusal check (cond at_i.refused (refused fault.BadSwitch i) (Ok tt)) → Keeping (set H i at_i.head) (set W i at_i.word) c' (d i).instr.end
+      pub keeping_done : (c' : Check) → c' ≡ result_and check (kept_check kept i) → Keeping (set H i at_i.head) (set W i at_i.word) c' x.end
       unfolding going_done
       keeping_done c' is =
           let g = m.going in
           let b = behind s i done in
-          let r = (rest_of d len (suc g.passed) (d i).instr.end).instrs in
+          let r = (rest_of d len (suc g.passed) x.end).instrs in
           record {
             going = going_done s.opcodes s.pooled d len g c' done b.0 b.1 (checked c' is);
             starts = λ t. m.starts t ∙ ap (λ (is : List Instr). headed H t || elem t (map offset is)) (going_instrs s.opcodes s.pooled d len g done)
-                ∙ or_three (headed H t) (eqb t (d i).instr.offset) (elem t (map offset r))
+                ∙ or_three (headed H t) (eqb t x.offset) (elem t (map offset r))
                 ∙ ap (λ (b : Bool). b || elem t (map offset r)) (ap (λ (p : ℕ). headed H t || eqb t p) (own_offset s.code s.opcodes s.types s.rfs i done) ∙ sym (set-head H i at_i.head t in_heads some_head));
             holds = now_holds;
             heads = length-set H i at_i.head ∙ m.heads;
@@ -145,14 +149,10 @@ module _ (s : Source) where
           }
 
       -- the same, of what calls gave
-      pub kept_done : (k : Kept) (c' : Check) (e : ℕ) → k ≡ at_i → c' ≡ first_refusal check (cond k.refused (refused fault.BadSwitch i) (Ok tt)) → e ≡ (d i).instr.end → Keeping (set H i k.head) (set W i k.word) c' e
-      kept_done k c' e is checked ends =
-          subst (λ (x : Kept). c' ≡ first_refusal check (cond x.refused (refused fault.BadSwitch i) (Ok tt)) → Keeping (set H i x.head) (set W i x.word) c' e) (sym is)
-          (λ h. subst (Keeping (set H i at_i.head) (set W i at_i.word) c') (sym ends) (keeping_done c' h)) checked
-
-  -- what is kept of the instruction x, decoded at i
-  pub kept_is : (i : ℕ) (x : Instr) {flow : Flow} {size : ℕ} (k : Kept) → x ≡ (d i).instr → flow ≡ s.opcodes.flow x.opcode → size ≡ x.end - i → k ≡ kept_of s.elem s.pooled flow x size → k ≡ kept_at s i
-  unfolding kept_at
-  kept_is i x {size = size} k is f e h =
-      h ∙ ap (λ (y : Flow). kept_of s.elem s.pooled y x size) f ∙ ap (kept_of s.elem s.pooled (s.opcodes.flow x.opcode) x) e
-      ∙ ap (λ (y : Instr). kept_of s.elem s.pooled (s.opcodes.flow y.opcode) y (y.end - i)) is
+      pub kept_done : (k : Result Kept BadSwitch) (size : ℕ) (on p : Kept) (c' : Check) (e : ℕ) → k ≡ kept → size ≡ x.end - i → on ≡ kept_on size → p ≡ result_unwrap_or k on → c' ≡ result_and check (kept_check k i) → e ≡ x.end
+          → Keeping (set H i p.head) (set W i p.word) c' e
+      unfolding kept_at
+      kept_done k size on p c' e is long goes has checked ends =
+          let h : p ≡ at_i = has ∙ ap (result_unwrap_or k) (goes ∙ ap kept_on long) ∙ stored_is (x.end - i) k ∙ ap (stored (x.end - i)) is in
+          subst (λ (y : Kept). Keeping (set H i y.head) (set W i y.word) c' e) (sym h)
+          (subst (Keeping (set H i at_i.head) (set W i at_i.word) c') (sym ends) (keeping_done c' (checked ∙ ap (λ (y : Result Kept BadSwitch). result_and check (kept_check y i)) is)))

@@ -1,7 +1,7 @@
 -- A refusal has one of the numbers 1 to 26: so no refusal is told as "closed", "leaves" or "end". Assumes nothing.
 use Prim.Native.Nat.{ℕ, zero, suc, ◌+◌, ◌/◌, ◌≤◌}
 use mathlib.Core.Path.{◌≡◌, refl, sym, subst}
-use mathlib.Core.Bool.{Bool, true, false, cond, not, ◌&&◌, ◌||◌}
+use mathlib.Core.Bool.{Bool, true, false, cond, ◌&&◌, ◌||◌}
 use mathlib.Core.List.{List, [], ◌∷◌, map}
 use native.Mathlib.Omega.{arith}
 use lib.Dec.{eqb, ltb, leb}
@@ -26,20 +26,18 @@ use Rattle.store.specs.Check.{sizes_ok, bad_object, bad_slot, check_store}
 use Rattle.serializer.specs.Field.{raw_at}
 use Rattle.tables.specs.Check.{records, check_names, refused_for, is_faulty, first_fault, check_table}
 use Rattle.tables.specs.Names.{bad_name}
-use Rattle.tables.specs.Records.{opcode_size, opcode_name_size, most_opcodes, type_size, type_name_size, fixed_types, most_types, name_size, most_runtime, most_intrinsic, opcode_count, type_count, opcode_start, zeros, fields_ok, flow_fits, opcode_fault, type_ok, type_fault}
+use Rattle.tables.specs.Records.{opcode_size, opcode_name_size, most_opcodes, type_size, type_name_size, fixed_types, most_types, name_size, most_runtime, most_intrinsic, opcode_count, type_count, opcode_start, zeros, fields_ok, flow_fits, opcode_fault, type_ok, type_fault, is_op}
 use Rattle.layout.specs.Layout.{layout_size, bad_value, layout_of}
 use Rattle.header.specs.Header.{header_by, length_ok, length_by, rt_for}
-use Rattle.prefix.specs.declared.Head.{Head}
+use Rattle.tables.specs.declared.Prefixes.{Prefixes}
+use Rattle.prefix.specs.Head.{Begins, op_at, behind, head_at}
 use Rattle.decoder.specs.declared.Instr.{Instr}
-use Rattle.decoder.specs.declared.Outcome.{Outcome}
-use Rattle.decoder.specs.declared.Decoded.{Decoded}
-use Rattle.prefix.specs.Head.{op_at, behind, head_at}
-use Rattle.decoder.specs.Decode.{Part, parts_from, operand_types, part_width, offset_of, is_short, short_fault, refused_at, read_parts, decode_head, decode_at}
+use Rattle.decoder.specs.Decode.{Decoded, instr_in, Part, parts_from, operand_types, part_width, offset_of, is_short, short_fault, refused_at, read_parts, decode_head, decode_at}
 use Rattle.decoder.specs.Listed.{list_on, list_from, decodes}
-use Rattle.flow.specs.Opcodes.{Opcodes, prefix_with}
+use Rattle.flow.specs.Opcodes.{Opcodes, prefixes_with}
 use Rattle.targets.specs.Targets.{jump_table}
 use Rattle.function.specs.Files.{Files, check_files, check_pool_object, check_lent}
-use Rattle.function.specs.Code.{header_at, header_check, table_check, switch_check, code_check}
+use Rattle.function.specs.Code.{header_at, header_check, table_check, switch_check}
 use Rattle.graph.specs.Graph.{Finding, finding}
 use Rattle.graph.specs.Graph.Finding.{closed, leaves}
 use Rattle.steps.specs.Steps.{Source, listing, walk_graph}
@@ -131,10 +129,10 @@ lent_row f w code =
     object (Some n) = either_row (store_row f.objects f.slots f.payload) (unless_row (ltb n (object_count f.objects)) fault.NoObject (omega arith) (omega arith))
 
 -- ---- decoding
-abbrev HeadRow : Head → Type 0
-HeadRow (Head.Refused r) = Row r
-HeadRow Head.End = Unit {0}
-HeadRow (Head.Op opcode scale at) = Unit {0}
+abbrev HeadRow : Begins → Type 0
+HeadRow (Err r) = Row r
+HeadRow (Ok None) = Unit {0}
+HeadRow (Ok (Some h)) = Unit {0}
 
 op_row : (code : List ℕ) (ops start scale at : ℕ) → HeadRow (op_at code ops start scale at)
 op_row code ops start scale at = by_test HeadRow (leb ops (get_or code at 0)) (λ t. record { least = omega arith; most = omega arith }) (λ t. tt)
@@ -142,47 +140,57 @@ op_row code ops start scale at = by_test HeadRow (leb ops (get_or code at 0)) (�
 behind_row : (code : List ℕ) (ops start : ℕ) (f : Fault) (scale : ℕ) → 1 ≤ number_of f → number_of f ≤ 26 → HeadRow (behind code ops start f scale)
 behind_row code ops start f scale l h = by_test HeadRow (eqb (start + 1) (length code)) (λ t. record { least = l; most = h }) (λ t. op_row code ops start scale (start + 1))
 
-head_row : (code : List ℕ) (ops start wide extra : ℕ) → HeadRow (head_at code ops start wide extra)
+head_row : (code : List ℕ) (ops start : ℕ) (prefixes : Prefixes) → HeadRow (head_at code ops start prefixes)
 unfolding head_at
-head_row code ops start wide extra =
+head_row code ops start prefixes =
     by_test HeadRow (ltb (length code) start) (λ t. record { least = omega arith; most = omega arith })
     (λ t. by_test HeadRow (eqb start (length code)) (λ t. tt)
-    (λ t. by_test HeadRow (eqb (get_or code start 0) wide) (λ t. behind_row code ops start fault.EndsAfterWide 2 (omega arith) (omega arith))
-    (λ t. by_test HeadRow (eqb (get_or code start 0) extra) (λ t. behind_row code ops start fault.EndsAfterExtraWide 4 (omega arith) (omega arith)) (λ t. op_row code ops start 1 start))))
+    (λ t. by_test HeadRow (is_op prefixes.wide (get_or code start 0)) (λ t. behind_row code ops start fault.EndsAfterWide 2 (omega arith) (omega arith))
+    (λ t. by_test HeadRow (is_op prefixes.extra_wide (get_or code start 0)) (λ t. behind_row code ops start fault.EndsAfterExtraWide 4 (omega arith) (omega arith)) (λ t. op_row code ops start 1 start))))
 
-abbrev OutcomeRow : Outcome → Type 0
-OutcomeRow o = RowOf (code_check o)
+abbrev pub DecodedRow : Decoded → Type 0
+DecodedRow d = (r : Refusal) → d ≡ Err r → Row r
 
 short_row : (p : Part) → (1 ≤ number_of (short_fault p)) × (number_of (short_fault p) ≤ 26)
 short_row (Part.own t) = (omega arith, omega arith)
 short_row Part.count = (omega arith, omega arith)
 
-parts_row : (code types : List ℕ) (scale opcode : ℕ) (rfs : ℤ) (start at : ℕ) (ps : List Part) → OutcomeRow (read_parts code types scale opcode rfs start at ps).outcome
+-- an instruction is not refused
+read_row : (i : Instr) → DecodedRow (Ok (Some i))
+read_row i r e = cc
+
+refused_row : (q : Refusal) → Row q → DecodedRow (Err q)
+refused_row q w r e = let h : q ≡ r = cc in subst Row h w
+
+end_row : DecodedRow (Ok None)
+end_row r e = cc
+
+parts_row : (code types : List ℕ) (scale opcode : ℕ) (rfs : ℤ) (start at : ℕ) (ps : List Part) → DecodedRow (read_parts code types scale opcode rfs start at ps)
 unfolding read_parts
 parts_row code types scale opcode rfs start at ps =
     let ws = map (part_width types scale) ps in
     let k = first_from (is_short code ws at) 0 (length ps) in
     let n = short_row (get_or ps k Part.count) in
-    by_test (λ (d : Decoded). OutcomeRow d.outcome) (ltb k (length ps)) {x = refused_at (short_fault (get_or ps k Part.count)) (at + offset_of ws k)} (λ t. its_row (record { least = n.0; most = n.1 })) (λ t. no_row)
+    by_test DecodedRow (ltb k (length ps)) {x = refused_at (short_fault (get_or ps k Part.count)) (at + offset_of ws k)} (λ t. refused_row _ (record { least = n.0; most = n.1 })) (λ t. read_row _)
 
-pub decode_row : (code : List ℕ) (ops : Opcodes) (types : List ℕ) (rfs : ℤ) (at : ℕ) → OutcomeRow (decodes code ops types rfs at).outcome
+pub decode_row : (code : List ℕ) (ops : Opcodes) (types : List ℕ) (rfs : ℤ) (at : ℕ) → DecodedRow (decodes code ops types rfs at)
 unfolding decode_at
-decode_row code ops types rfs at = go (head_at code ops.many at (prefix_with ops 1) (prefix_with ops 2)) (head_row code ops.many at (prefix_with ops 1) (prefix_with ops 2))
+decode_row code ops types rfs at = go (head_at code ops.many at (prefixes_with ops)) (head_row code ops.many at (prefixes_with ops))
   where
-    go : (h : Head) → HeadRow h → OutcomeRow (decode_head h code ops types at rfs).outcome
-    go Head.End r = no_row
-    go (Head.Refused q) r = its_row r
-    go (Head.Op opcode scale from) r = parts_row code types scale opcode rfs at from (parts_from false (operand_types ops opcode))
+    go : (h : Begins) → HeadRow h → DecodedRow (decode_head h code ops types at rfs)
+    go (Ok None) r = end_row
+    go (Err q) r = refused_row q r
+    go (Ok (Some h)) r = parts_row code types h.scale h.opcode rfs at h.at (parts_from false (operand_types ops h.opcode))
 
-list_row : (d : ℕ → Decoded) → ((at : ℕ) → OutcomeRow (d at).outcome) → (f at : ℕ) → OutcomeRow (list_from d f at).outcome
+list_row : (d : ℕ → Decoded) → ((at : ℕ) → DecodedRow (d at)) → (f at : ℕ) → RowOf (list_from d f at).check
 unfolding list_from
 list_row d all zero at = no_row
-list_row d all (suc f) at = go (d at).outcome (all at) (list_row d all f (d at).instr.end)
+list_row d all (suc f) at = go (d at) (all at) (list_row d all f (instr_in (d at)).end)
   where
-    go : (o : Outcome) → OutcomeRow o → OutcomeRow (list_from d f (d at).instr.end).outcome → OutcomeRow (list_on o (d at).instr (list_from d f (d at).instr.end)).outcome
-    go Outcome.End r rest = no_row
-    go (Outcome.Refused q) r rest = r
-    go Outcome.Done r rest = rest
+    go : (x : Decoded) → DecodedRow x → RowOf (list_from d f (instr_in (d at)).end).check → RowOf (list_on x (list_from d f (instr_in (d at)).end)).check
+    go (Ok None) r rest = no_row
+    go (Err q) r rest = its_row (r q refl)
+    go (Ok (Some i)) r rest = rest
 
 switch_row : (ops : Opcodes) (pooled : Bool) (is : List Instr) → RowOf (switch_check ops pooled is)
 unfolding switch_check

@@ -1,10 +1,8 @@
 // The walk check: one pass decodes the listed instructions, makes the checks and keeps where each goes; a search over what is kept finds the answer.
 #![tactic(auto)]
 
-ghost use Rattle.std.specs.Prelude.{◌≡◌, ◌≤◌, cond, ◌||◌, eqb, leb, ltb, length, []};
-ghost use Rattle.refusal.specs.Check.{Check};
-ghost use Rattle.refusal.specs.declared.Fault.TheVariants as fault;
-ghost use Rattle.refusal.specs.Check.{refused, first_refusal, refuse_unless};
+ghost use Rattle.std.specs.Prelude.{◌≡◌, ◌≤◌, ◌||◌, eqb, ltb, length, [], Some, Ok};
+ghost use Rattle.decoder.specs.declared.Instr.{Instr};
 ghost use Rattle.decoder.specs.Decode.{decode_at};
 ghost use Rattle.flow.specs.Opcodes.{opcodes_of};
 ghost use Rattle.targets.specs.Targets.{found};
@@ -14,9 +12,8 @@ ghost use Rattle.steps.specs.mirror.Keeping.{kept_of};
 ghost use Rattle.function.specs.Files.{Files, files_of, lent_files};
 ghost use Rattle.walk.specs.Walk.{answer, walk_source, WalkedAs, Promise, Given, given_of, object_source, object_with, walk_call, walk_with};
 ghost use Rattle.walk.specs.Walk.{lent_source, lent_with, walk_lent, walk_lent_with};
-ghost use Rattle.walk.specs.mirror.Search.{source_of, Prefixed, Clear, Started, WalkedBy, walk_searched};
+ghost use Rattle.walk.specs.mirror.Search.{source_of, Prefixed, Clear, Started, WalkedBy, walk_searched, kept_check};
 
-use decoder::Outcome;
 use flow::{Flow, Kind};
 use function::Function;
 use header::Header;
@@ -25,6 +22,7 @@ use search::Elements;
 pub use search::Walked;
 use steps::Kept;
 use store::Object;
+use targets::BadSwitch;
 
 // The walks of an object, a BytecodeArray: rows 1 to 9, 11 to 16, 19 and 18. After a refusal the marks are as they were.
 pub fn walk(
@@ -161,7 +159,7 @@ fn is_held(h: Header) -> bool
 }
 
 // The walks of a code of at most 65,536 bytes, once its files are good. Room by the code's length: most code is short, and the room is cleared in
-// each call. A head and two words for each byte, and two bytes an offset queued.
+// each call.
 fn walk_source(
     marks: &mut [u8],
     code: &[u8],
@@ -178,15 +176,17 @@ fn walk_source(
         handlers.now f) marks.old) result marks.new }
 {
     if code.len() <= 1024 {
-        return walk_short(marks, code, opcodes, types, slots, payload, handlers, f);
+        return walk_within::<1024>(marks, code, opcodes, types, slots, payload, handlers, f);
     }
     if code.len() <= 8192 {
-        return walk_middle(marks, code, opcodes, types, slots, payload, handlers, f);
+        return walk_within::<8192>(marks, code, opcodes, types, slots, payload, handlers, f);
     }
-    walk_long(marks, code, opcodes, types, slots, payload, handlers, f)
+    walk_within::<65536>(marks, code, opcodes, types, slots, payload, handlers, f)
 }
 
-fn walk_short(
+// The same with room for N bytes: a head and two words for each, and two bytes an offset queued. Arrays side by side and not one of a struct: that would
+// be no plainer, since the pass for the handlers fills and reads the third alone.
+fn walk_within<const N: usize>(
     marks: &mut [u8],
     code: &[u8],
     opcodes: &[u8],
@@ -196,85 +196,15 @@ fn walk_short(
     handlers: &[u8],
     f: Function,
 ) -> Result<Walked, Refusal>
-    requires { (length code.now ≤ 1024) × Prefixed opcodes.now f }
+    requires { (length code.now ≤ N) × (N ≤ 65536) × Prefixed opcodes.now f }
     ensures { WalkedBy (walk_source
         (source_of code.now opcodes.now types.now slots.now payload.now
         handlers.now f) marks.old) result marks.new }
 {
-    let mut heads = [0u32; 1024];
-    let mut words = [0u32; 1024];
-    let mut catches = [0u32; 1024];
-    let mut queue = [0u16; 1024];
-    walk_in(
-        marks,
-        code,
-        opcodes,
-        types,
-        slots,
-        payload,
-        handlers,
-        f,
-        &mut heads,
-        &mut words,
-        &mut catches,
-        &mut queue,
-    )
-}
-
-fn walk_middle(
-    marks: &mut [u8],
-    code: &[u8],
-    opcodes: &[u8],
-    types: &[u8],
-    slots: &[u8],
-    payload: &[u8],
-    handlers: &[u8],
-    f: Function,
-) -> Result<Walked, Refusal>
-    requires { (length code.now ≤ 8192) × Prefixed opcodes.now f }
-    ensures { WalkedBy (walk_source
-        (source_of code.now opcodes.now types.now slots.now payload.now
-        handlers.now f) marks.old) result marks.new }
-{
-    let mut heads = [0u32; 8192];
-    let mut words = [0u32; 8192];
-    let mut catches = [0u32; 8192];
-    let mut queue = [0u16; 8192];
-    walk_in(
-        marks,
-        code,
-        opcodes,
-        types,
-        slots,
-        payload,
-        handlers,
-        f,
-        &mut heads,
-        &mut words,
-        &mut catches,
-        &mut queue,
-    )
-}
-
-fn walk_long(
-    marks: &mut [u8],
-    code: &[u8],
-    opcodes: &[u8],
-    types: &[u8],
-    slots: &[u8],
-    payload: &[u8],
-    handlers: &[u8],
-    f: Function,
-) -> Result<Walked, Refusal>
-    requires { (length code.now ≤ 65536) × Prefixed opcodes.now f }
-    ensures { WalkedBy (walk_source
-        (source_of code.now opcodes.now types.now slots.now payload.now
-        handlers.now f) marks.old) result marks.new }
-{
-    let mut heads = [0u32; 65536];
-    let mut words = [0u32; 65536];
-    let mut catches = [0u32; 65536];
-    let mut queue = [0u16; 65536];
+    let mut heads = [0u32; N];
+    let mut words = [0u32; N];
+    let mut catches = [0u32; N];
+    let mut queue = [0u16; N];
     walk_in(
         marks,
         code,
@@ -321,7 +251,7 @@ fn walk_in(
     keep_code(code, opcodes, types, slots, payload, f, h, w)?;
     refusal::refuse_unless(n <= marks.len(), Fault::ShortMarks)?;
     handlers::check_handlers(handlers, n)?;
-    handlers::catch_table(code, opcodes, handlers, f.wide, f.extra, c);
+    handlers::catch_table(code, opcodes, handlers, f.prefixes, c);
     let e = Elements { ts: f.ts, pool };
     Ok(search::search(slots, payload, e, h, w, c, &mut marks[..n], queue))
 }
@@ -373,29 +303,25 @@ fn keep_all(
     let mut i: usize = 0;
     // A step is as long as the instruction: a range or an iterator would be no plainer.
     while i < code.len() {
-        let x = decoder::extent_at(code, opcodes, types, i, f.wide, f.extra);
-        let outcome = x.outcome;
-        match outcome {
-            Outcome::Refused(refusal) => return Err(refusal),
-            Outcome::End => return check,
-            Outcome::Done => {
-                let end = x.end;
-                let size = end - i;
-                let flow = flow::flow_of(opcodes, x.opcode);
-                let k = keep_at(
-                    code, opcodes, types, slots, payload, blocks, f, flow, i, size as u8,
-                );
-                check = kept_check(check, k.refused, i);
-                heads[i] = k.head;
-                words[i] = k.word;
-                i = end;
-            }
-        }
+        let Some(x) = decoder::extent_at(code, opcodes, types, i, f.prefixes)? else {
+            return check;
+        };
+        let size = (x.end - i) as u8;
+        let flow = flow::flow_of(opcodes, x.opcode);
+        let kept = keep_at(
+            code, opcodes, types, slots, payload, blocks, f, flow, i, size,
+        );
+        check = check.and(kept_check(kept, i));
+        // One whose table is refused is stored as one that goes on.
+        let k = kept.unwrap_or(steps::kept_on(size));
+        heads[i] = k.head;
+        words[i] = k.word;
+        i = x.end;
     }
     check
 }
 
-// What is kept of the instruction at i, of so many bytes. Only one that jumps needs its operands.
+// What is kept of the instruction at i, of so many bytes, where one stands. Only one that jumps needs its operands.
 fn keep_at(
     code: &[u8],
     opcodes: &[u8],
@@ -407,22 +333,21 @@ fn keep_at(
     flow: Flow,
     i: usize,
     size: u8,
-) -> Kept
+) -> Result<Kept, BadSwitch>
     requires { PoolBlocked slots.now f.ts f.pool blocks.now }
-    ensures { result ≡ kept_of (pool_searched slots.now payload.now f.ts f.pool) (found f.pool) flow
-        (decode_at code.now (opcodes_of opcodes.now) types.now i
-        f.frame.reg_file_start f.wide f.extra).instr size }
+    ensures { (instr : Instr) → decode_at code.now (opcodes_of opcodes.now) types.now i f.frame.reg_file_start f.prefixes ≡ Ok (Some instr)
+        → result ≡ kept_of (pool_searched slots.now payload.now f.ts f.pool) (found f.pool) flow instr size }
 {
-    let kind = flow.kind;
-    match kind {
-        Kind::On => steps::kept_on(size),
-        Kind::Ends => steps::kept_end(size),
+    match flow.kind {
+        Kind::On => Ok(steps::kept_on(size)),
+        Kind::Ends => Ok(steps::kept_end(size)),
         _ => keep_jump(
             code, opcodes, types, slots, payload, blocks, f, flow, i, size,
         ),
     }
 }
 
+// The same with its operands; where none stands, nothing is promised.
 fn keep_jump(
     code: &[u8],
     opcodes: &[u8],
@@ -434,38 +359,27 @@ fn keep_jump(
     flow: Flow,
     i: usize,
     size: u8,
-) -> Kept
+) -> Result<Kept, BadSwitch>
     requires { PoolBlocked slots.now f.ts f.pool blocks.now }
-    ensures { result ≡ kept_of (pool_searched slots.now payload.now f.ts f.pool) (found f.pool) flow
-        (decode_at code.now (opcodes_of opcodes.now) types.now i
-        f.frame.reg_file_start f.wide f.extra).instr size }
+    ensures { (instr : Instr) → decode_at code.now (opcodes_of opcodes.now) types.now i f.frame.reg_file_start f.prefixes ≡ Ok (Some instr)
+        → result ≡ kept_of (pool_searched slots.now payload.now f.ts f.pool) (found f.pool) flow instr size }
 {
-    let pool = f.pool;
-    let frame = f.frame;
-    let d = decoder::decode_at(
-        code,
-        opcodes,
-        types,
-        i,
-        frame.reg_file_start,
-        f.wide,
-        f.extra,
-    );
-    let instr = d.instr;
-    steps::kept_of(slots, payload, blocks, f.ts, pool, flow, instr, size)
+    let rfs = f.frame.reg_file_start;
+    let Ok(Some(instr)) = decoder::decode_at(code, opcodes, types, i, rfs, f.prefixes) else {
+        return Ok(steps::kept_on(size));
+    };
+    steps::kept_of(slots, payload, blocks, f.ts, f.pool, flow, instr, size)
 }
 
-// Number 16 for a table that is refused, behind the faults before it.
-fn kept_check(check: Result<(), Refusal>, bad: bool, at: usize) -> Result<(), Refusal>
-    ensures { result ≡ first_refusal check (cond bad (refused fault.BadSwitch at) (Ok tt)) }
+// Number 16 for a table that is refused.
+fn kept_check(kept: Result<Kept, BadSwitch>, at: usize) -> Result<(), Refusal>
+    ensures { result ≡ kept_check kept at }
 {
-    check?;
-    if bad {
-        Err(Refusal {
+    match kept {
+        Ok(_) => Ok(()),
+        Err(BadSwitch) => Err(Refusal {
             fault: Fault::BadSwitch,
             place: at,
-        })
-    } else {
-        Ok(())
+        }),
     }
 }

@@ -1,14 +1,14 @@
 -- Laws of signed numbers: what the code's conversions compute, over the width, and what wraps. Assumes nothing.
-use Rattle.std.proofs.Common.{◌≡◌, ℕ, zero, suc, ◌+◌, ◌-◌, ◌/◌, ◌%◌, ◌^◌, ◌<◌, ◌≤◌, Bool, true, false, cond, eqb, ltb, ℤ, pos, negsuc, ◌+ℤ◌, ◌-ℤ◌, neg_ℤ, sym, refl, ap, ◌∙◌, lt_of_lt_of_le, mod-eq_of_lt, arith, to_z-of_z, w8, w16, w32, w64, Fits, SFits, to_z, of_z, ltb-false, ltb-true, le-ltb, eq-eqb, ne_eqb, eqb-true}
+use Rattle.std.proofs.Common.{◌≡◌, ℕ, suc, ◌+◌, ◌-◌, ◌%◌, ◌^◌, ◌<◌, ◌≤◌, Bool, true, false, cond, eqb, ltb, ℤ, pos, negsuc, ◌+ℤ◌, ◌-ℤ◌, sym, refl, ap, ◌∙◌, lt_of_lt_of_le, mod-eq_of_lt, arith, to_z-of_z, w8, w16, w32, w64, Fits, SFits, to_z, of_z, ltb-false, ltb-true, le-ltb, eq-eqb, ne_eqb, eqb-true}
 use native.Mathlib.Nat.{pow-le-pow_right}
 use Rattle.laws.proofs.Tests.{clash}
-use lib.Signed.{lt_z, mag, quot_z}
+use lib.Signed.{lt_z}
 use mir.Syntax.{Width, w128}
-use Rattle.std.specs.Int.{int_wrap, int_wrapping_sub}
-use Rattle.std.proofs.lemmas.Int.{int_wrap-add_left, wrapping_sub_is}
+use Rattle.std.specs.Int.{int_wrap, int_wrapping_add, int_wrapping_sub}
+use Rattle.std.proofs.lemmas.Int.{int_wrap-add_left, wrapping_add_is, wrapping_sub_is, wrapping_add_onto}
 use mir.ValLaws.{to_z_pos, to_z-Fits, of_z-to_z}
 use mir.Val.{sel, bits, hbits}
-use Rattle.words.specs.Signed.{modulo, wrap32, signed, list_last, negative, eq_z}
+use Rattle.words.specs.Signed.{modulo, wrap32, signed, list_last, param_number, negative, eq_z}
 use Rattle.words.specs.mirror.Bits.{extend_from, extend_bits}
 use Rattle.words.proofs.Modulo.{modulo-lt, modulo-add, modulo-sub}
 
@@ -32,6 +32,10 @@ unfolding modulo
 modulo_fits w (pos n) h = mod-eq_of_lt (lt_of_lt_of_le h.sfits (half_le w))
 modulo_fits w (negsuc n) h = ap (λ (k : ℕ). 2 ^ bits w - suc k) (mod-eq_of_lt (lt_of_lt_of_le h.sfits (half_le w)))
 
+-- the bits of a number of 64, as std gives them
+pub bits_64 : (z : ℤ) → SFits w64 z → of_z w64 z ≡ modulo (2 ^ 64) z
+bits_64 z h = sym (modulo_fits w64 z h)
+
 -- bits read as signed, with the highest set; m has all bits set
 pub to_z_high : (w : Width) (m x : ℕ) → suc m ≡ 2 ^ bits w → 2 ^ bits w ≡ 2 ^ hbits w + 2 ^ hbits w → 2 ^ hbits w ≤ x → x < 2 ^ bits w → to_z w x ≡ negsuc (m - x)
 to_z_high w m x all twice high fits = rw (le-ltb x (2 ^ hbits w) high) (ap negsuc (omega arith))
@@ -53,6 +57,21 @@ modulo_wrap z =
 -- wrapping before a sum or a difference changes nothing
 pub wrap_add_wrap : (a b : ℤ) → wrap32 (wrap32 a +ℤ b) ≡ wrap32 (a +ℤ b)
 wrap_add_wrap a b = simp wrap_same at (int_wrap-add_left w32 a b)
+
+-- std's sum and difference of numbers of 32 bits
+module _ (a b : ℤ) (f : SFits w32 a) (g : SFits w32 b) where
+  pub add_wraps : int_wrapping_add w32 a b ≡ wrap32 (a +ℤ b)
+  add_wraps = wrapping_add_is w32 a b f g ∙ wrap_same (a +ℤ b)
+
+  pub sub_wraps : int_wrapping_sub w32 a b ≡ wrap32 (a -ℤ b)
+  sub_wraps = wrapping_sub_is w32 a b f g ∙ wrap_same (a -ℤ b)
+
+-- a parameter's number: a difference and a sum that wrap
+pub param_law : (index base count : ℤ) → SFits w32 index → SFits w32 base → SFits w32 count
+    → to_z w32 (((of_z w32 index + (2 ^ 32 - of_z w32 base)) % 2 ^ 32 + of_z w32 count) % 2 ^ 32) ≡ param_number index base count
+param_law index base count f g h =
+    let m = (of_z w32 index + (2 ^ 32 - of_z w32 base)) % 2 ^ 32 in
+    wrapping_add_onto w32 m count (omega arith) h ∙ wrap_same (to_z w32 m +ℤ count) ∙ ap (λ (z : ℤ). wrap32 (z +ℤ count)) (sub_wraps index base f g) ∙ wrap_add_wrap (index -ℤ base) count
 
 -- the last register of a list: r is first + count, wrapped
 pub last_law : (first : ℤ) (count : ℕ) (r : ℤ) → SFits w32 first → SFits w32 r → r ≡ to_z w32 ((of_z w32 first + count) % 2 ^ 32)
@@ -115,15 +134,6 @@ same_bits w a b fa fb = go (eq_z a b) refl
         (λ h.
         let same : a ≡ b = sym (to_z-of_z fa) ∙ ap (to_z w) h ∙ to_z-of_z fb in
         clash (eq_z_same a) (ap (eq_z a) same ∙ e))
-
--- ---- shorter numbers fit
-mag_neg : (k : ℕ) → mag (neg_ℤ (pos k)) ≤ k
-mag_neg zero = omega arith
-mag_neg (suc k) = omega arith
-
-pub eighth_fits : (z : ℤ) → SFits w32 z → SFits w32 (quot_z z (pos 8))
-eighth_fits (pos a) h = record { sfits = omega (arith, h.sfits) }
-eighth_fits (negsuc a) h = record { sfits = omega (arith, h.sfits, mag_neg (suc a / 8)) }
 
 -- the low 32 of the low 64 bits
 pub low_low : (z : ℤ) → modulo (2 ^ 64) z % 2 ^ 32 ≡ modulo (2 ^ 32) z

@@ -2,17 +2,17 @@
 use Prim.Native.Nat.{ℕ, zero, suc, ◌+◌, ◌-◌, ◌≤◌, min}
 use mathlib.Core.Path.{◌≡◌, refl, sym, ap, ◌∙◌}
 use mathlib.Core.Bool.{Bool, true, false, ◌&&◌}
-use mathlib.Core.List.{List, [], ◌∷◌, map}
+use mathlib.Core.List.{List, [], ◌∷◌}
 use mathlib.Core.Logic.{◌⊎◌, inl, inr, ⊎_elim}
 use native.Mathlib.Omega.{arith}
 use native.Mathlib.Nat.{not-suc-le-zero, le_of_suc-le-suc}
 use borrow.Author.Tests.{eqb-true}
-use lib.Dec.{eqb, ltb}
+use lib.Dec.{eqb}
 use lib.ListN.{length, take, drop}
 use lib.IntN.{ℤ}
 use Rattle.laws.proofs.Tests.{and_left, and_right, clash, either}
 use Rattle.words.proofs.Le.{Bytes}
-use Rattle.std.specs.Prelude.{Ok}
+use Rattle.std.specs.Prelude.{Some, Ok}
 use Rattle.text.specs.Written.{put_text}
 use Rattle.layout.specs.Layout.{signed_value}
 use Rattle.tables.specs.Records.{width}
@@ -21,12 +21,11 @@ use Rattle.flow.specs.Opcodes.{Opcodes, opcodes_of, prefix_with}
 use Rattle.operand.specs.Operand.{kinds, kind_of, is_list}
 use Rattle.operand.specs.declared.Operand.{Operand}
 use Rattle.decoder.specs.declared.Instr.{Instr}
-use Rattle.decoder.specs.declared.Outcome.{Outcome}
-use Rattle.decoder.specs.declared.Decoded.{Decoded}
-use Rattle.decoder.specs.Decode.{codes_from, operand_types, records_of, instr_of}
+use Rattle.decoder.proofs.Laws.{done_is}
+use Rattle.decoder.specs.Decode.{instr_in, codes_from, operand_types, places_of, operands_in, instr_of}
 use Rattle.decoder.specs.Listed.{decodes}
 use Rattle.writer.specs.Bytes.{instr_bytes}
-use Rattle.writer.specs.Write.{reads_back, operands_ok, scale_ok, operand_of, given, check_write, written_bytes, write_call}
+use Rattle.writer.specs.Write.{reads_back, operands_ok, is_some, scale_ok, given, all_hold, check_write, written_bytes, write_call}
 use Rattle.writer.specs.Narrow.{Narrow, AllNarrow}
 use Rattle.writer.specs.Whole.{NarrowAt, NarrowTable}
 use Rattle.writer.proofs.Types.{ok_skip, ok_one}
@@ -68,13 +67,18 @@ narrow_scale ops types scale small h = go (either (eqb scale 1)) (either (eqb sc
     go : (eqb scale 1 ≡ true) ⊎ (eqb scale 1 ≡ false) → (eqb scale 2 ≡ true) ⊎ (eqb scale 2 ≡ false) → NarrowAt types scale
     go (inl e) b = rw (eqb-true scale 1 e) small.0
     go (inr e) (inl f) = rw (eqb-true scale 2 f) small.1
-    go (inr e) (inr f) = let z = rw (e, f) at h in rw (eqb-true scale 4 (and_left (eqb scale 4) (ltb (prefix_with ops 2) 256) z)) small.2
+    go (inr e) (inr f) = let z = rw (e, f) at h in rw (eqb-true scale 4 (and_left (eqb scale 4) (is_some (prefix_with ops 2)) z)) small.2
 
--- ---- an instruction has at most eight operands, and its records hold them
-given_are : (n : ℕ) (os : List Operand) → length os ≤ n → map operand_of (take (length os) (records_of n os)) ≡ os
+-- ---- an instruction has at most eight operands, and its places hold them
+given_are : (n : ℕ) (os : List Operand) → length os ≤ n → operands_in (take (length os) (places_of n os)) ≡ os
 given_are n [] h = refl
 given_are zero (o ∷ os) h = absurd (not-suc-le-zero h)
 given_are (suc n) (o ∷ os) h = ap (λ (l : List Operand). o ∷ l) (given_are n os (le_of_suc-le-suc h))
+
+given_hold : (n : ℕ) (os : List Operand) → length os ≤ n → all_hold (take (length os) (places_of n os)) ≡ true
+given_hold n [] h = refl
+given_hold zero (o ∷ os) h = absurd (not-suc-le-zero h)
+given_hold (suc n) (o ∷ os) h = given_hold n os (le_of_suc-le-suc h)
 
 module _ (ops : Opcodes) (types : List ℕ) (rfs : ℤ) where
   few_operands : (scale opcode n k : ℕ) (after : Bool) (os : List Operand) → operands_ok types scale rfs after (codes_from ops opcode k n) os ≡ true → length os ≤ n
@@ -92,9 +96,9 @@ module _ (ops : Opcodes) (types : List ℕ) (rfs : ℤ) where
       (either (eqb t 8 && after))
 
   -- ---- what was decoded
-  module _ (code : List ℕ) (bytes : Bytes code) (at : ℕ) (i : Instr) (done : decodes code ops types rfs at ≡ record { outcome = Outcome.Done; instr = i }) where
+  module _ (code : List ℕ) (bytes : Bytes code) (at : ℕ) (i : Instr) (done : decodes code ops types rfs at ≡ Ok (Some i)) where
     back : Back ops types rfs code bytes at
-    back = read_back ops types rfs code bytes at (ap (λ (d : Decoded). d.outcome) done)
+    back = read_back ops types rfs code bytes at (done_is done)
 
     few : length back.operands ≤ 8
     few =
@@ -104,7 +108,7 @@ module _ (ops : Opcodes) (types : List ℕ) (rfs : ℤ) where
         omega arith
 
     is_back : i ≡ instr_of at back.opcode back.scale back.e back.operands
-    is_back = ap (λ (d : Decoded). d.instr) (sym done ∙ back.is)
+    is_back = ap instr_in (sym done ∙ back.is)
 
     given_back : given (instr_of at back.opcode back.scale back.e back.operands) ≡ back.operands
     given_back = given_are 8 back.operands few
@@ -117,7 +121,7 @@ module _ (ops : Opcodes) (types : List ℕ) (rfs : ℤ) where
     written_again =
         rw is_back (
           accepts ops types rfs (instr_of at back.opcode back.scale back.e back.operands)
-              (record { scale_fine = back.scale_fine; opcode_fine = back.opcode_fine; few = few; operands_fine = rw given_back back.operands_fine }),
+              (record { scale_fine = back.scale_fine; opcode_fine = back.opcode_fine; few = few; hold = given_hold 8 back.operands few; operands_fine = rw given_back back.operands_fine }),
           λ narrow. ap (instr_bytes ops types rfs back.scale back.opcode) given_back ∙ back.bytes_are narrow,
         )
 
@@ -129,7 +133,7 @@ module _ (ops : Opcodes) (types : List ℕ) (rfs : ℤ) where
     again_narrow small = written_again.1 (again_types small)
 
 -- and so is its call, by a checked and narrow table: no refusal but 17
-pub call_again : (ops types layout code : List ℕ) → Bytes code → (at : ℕ) (i : Instr) → decodes code (opcodes_of ops) types (signed_value layout 13) at ≡ record { outcome = Outcome.Done; instr = i }
+pub call_again : (ops types layout code : List ℕ) → Bytes code → (at : ℕ) (i : Instr) → decodes code (opcodes_of ops) types (signed_value layout 13) at ≡ Ok (Some i)
     → check_table ops types [] [] layout ≡ Ok tt → NarrowTable types → (out : List ℕ) → write_call ops types layout i out ≡ put_text (take (i.end - at) (drop at code)) out
 unfolding write_call
 call_again ops types layout code bytes at i done table small out =

@@ -5,12 +5,12 @@ use mathlib.Core.Bool.{Bool, true, false, cond, ◌&&◌}
 use mathlib.Core.List.{List, [], ◌++◌}
 use borrow.Author.Tests.{le-leb, leb-true}
 use lib.Dec.{leb}
-use lib.ListN.{length, drop, length-append}
+use lib.ListN.{length, take, drop, length-append}
 use lib.Seq.{take-append_seam}
 use lib.IntN.{ℤ}
 use Rattle.laws.proofs.Tests.{and_left, and_right}
 use Rattle.refusal.specs.declared.Refusal.{Refusal}
-use Rattle.std.specs.Prelude.{Result, Ok, Err}
+use Rattle.std.specs.Prelude.{Result, Ok, Err, Some}
 use Rattle.refusal.specs.Check.{Check}
 use Rattle.refusal.specs.declared.Fault.TheVariants as fault
 use Rattle.refusal.specs.Check.{refusal_at, first_refusal, refuse_unless, guarded_on}
@@ -21,10 +21,9 @@ use Rattle.layout.specs.Layout.{signed_value}
 use Rattle.tables.specs.Check.{check_table}
 use Rattle.flow.specs.Opcodes.{Opcodes, opcodes_of}
 use Rattle.decoder.specs.declared.Instr.{Instr}
-use Rattle.decoder.specs.declared.Outcome.{Outcome}
 use Rattle.decoder.specs.Decode.{operand_types, instr_of}
 use Rattle.decoder.specs.Listed.{decodes}
-use Rattle.writer.specs.Write.{operands_ok, scale_ok, opcode_fits, given, check_write, written_bytes, write_call, ReadsBack}
+use Rattle.writer.specs.Write.{operands_ok, scale_ok, opcode_fits, given, all_hold, check_write, written_bytes, write_call, ReadsBack}
 use Rattle.writer.proofs.Round.{write_reads}
 
 module _ (ops : Opcodes) (types : List ℕ) (rfs : ℤ) (i : Instr) where
@@ -33,6 +32,7 @@ module _ (ops : Opcodes) (types : List ℕ) (rfs : ℤ) (i : Instr) where
     pub scale_fine : scale_ok ops i.scale ≡ true
     pub opcode_fine : opcode_fits ops i.scale i.opcode ≡ true
     pub few : i.count ≤ 8
+    pub hold : all_hold (take i.count i.operands) ≡ true
     pub operands_fine : operands_ok types i.scale rfs false (operand_types ops i.opcode) (given i) ≡ true
 
   pub accepted : check_write ops types rfs i ≡ Ok tt → Accepted
@@ -40,22 +40,26 @@ module _ (ops : Opcodes) (types : List ℕ) (rfs : ℤ) (i : Instr) where
       let a = refuse_unless (scale_ok ops i.scale) fault.WrongScale in
       let b = refuse_unless (opcode_fits ops i.scale i.opcode) fault.WrongOpcode in
       let ok = operands_ok types i.scale rfs false (operand_types ops i.opcode) (given i) in
-      let c = refuse_unless (leb i.count 8 && ok) fault.WrongOperands in
+      let hold = all_hold (take i.count i.operands) in
+      let all = leb i.count 8 && hold && ok in
+      let c = refuse_unless all fault.WrongOperands in
       let rest = or_right a (first_refusal b c) h in
-      let t = good_is (leb i.count 8 && ok) fault.WrongOperands (or_right b c rest) in
+      let t = good_is all fault.WrongOperands (or_right b c rest) in
+      let places = and_left (leb i.count 8 && hold) ok t in
       record {
         scale_fine = good_is (scale_ok ops i.scale) fault.WrongScale (or_left a (first_refusal b c) h);
         opcode_fine = good_is (opcode_fits ops i.scale i.opcode) fault.WrongOpcode (or_left b c rest);
-        few = leb-true i.count 8 (and_left (leb i.count 8) ok t);
-        operands_fine = and_right (leb i.count 8) ok t;
+        few = leb-true i.count 8 (and_left (leb i.count 8) hold places);
+        hold = and_right (leb i.count 8) hold places;
+        operands_fine = and_right (leb i.count 8 && hold) ok t;
       }
 
   pub accepts : Accepted → check_write ops types rfs i ≡ Ok tt
-  accepts a = rw (a.scale_fine, a.opcode_fine, le-leb i.count 8 a.few, a.operands_fine)
+  accepts a = rw (a.scale_fine, a.opcode_fine, le-leb i.count 8 a.few, a.hold, a.operands_fine)
 
   -- what was accepted and written, anywhere in a code, is decoded there as it was given
   pub written_decodes : check_write ops types rfs i ≡ Ok tt → (s u : List ℕ) → decodes (s ++ (written_bytes ops types rfs i ++ u)) ops types rfs (length s)
-      ≡ record { outcome = Outcome.Done; instr = instr_of (length s) i.opcode i.scale (length (s ++ written_bytes ops types rfs i)) (given i) }
+      ≡ Ok (Some (instr_of (length s) i.opcode i.scale (length (s ++ written_bytes ops types rfs i)) (given i)))
   written_decodes ok s u =
       let a = accepted ok in
       let t = written_bytes ops types rfs i in

@@ -1,6 +1,6 @@
 -- Signed numbers and registers, written and read back at a width. Assumes nothing.
 use Prim.Native.Nat.{ℕ, suc, ◌-◌, ◌%◌, ◌^◌, ◌<◌, ◌≤◌}
-use mathlib.Core.Path.{◌≡◌, refl}
+use mathlib.Core.Path.{◌≡◌, refl, ap, ◌∙◌}
 use mathlib.Core.Bool.{Bool, true, false}
 use mathlib.Core.Logic.{⊎_elim}
 use native.Mathlib.Omega.{arith}
@@ -9,11 +9,13 @@ use borrow.Author.Tests.{ne_eqb}
 use lib.Dec.{ltb}
 use lib.IntN.{ℤ, pos, negsuc, ◌-ℤ◌}
 use mir.Syntax.{w8, w16, w32}
-use mir.Val.{to_z, sel}
+use mir.Val.{SFits, to_z, of_z, sel}
+use mir.ValLaws.{of_z-to_z}
+use Rattle.std.specs.Int.{int_wrapping_sub}
 use Rattle.laws.proofs.Tests.{same?}
 use Rattle.words.specs.Signed.{modulo, wrap32, signed, reg_index}
 use Rattle.words.proofs.Modulo.{modulo-lt, modulo-sub}
-use Rattle.words.proofs.Signs.{modulo_wrap}
+use Rattle.words.proofs.Signs.{modulo_wrap, sub_wraps}
 
 -- the bits of a signed number of so many bits are the number's
 low_8 : (x : ℕ) → x < 2 ^ 8 → modulo (2 ^ 32) (to_z w8 x) % 2 ^ 8 ≡ x
@@ -74,6 +76,11 @@ signed_low v w small h = ⊎_elim one (λ n. ⊎_elim two (other n) (same? w 2))
 
     other : (w ≡ 1 → ⊥) → (w ≡ 2 → ⊥) → modulo (2 ^ 32) (signed v w) % 256 ^ w ≡ v
     other n m = rw (ne_eqb w 1 n, ne_eqb w 2 m, low_32 (v % 2 ^ 32) (omega arith), low_small v w (2 ^ 32) h) (mod-eq_of_lt whole)
+
+-- the bits of a difference that wraps
+pub reg_law : (start i : ℤ) → SFits w32 start → SFits w32 i → of_z w32 (int_wrapping_sub w32 start i) ≡ modulo (2 ^ 32) (start -ℤ i)
+unfolding wrap32
+reg_law start i f g = ap (of_z w32) (sub_wraps start i f g) ∙ of_z-to_z w32 (modulo (2 ^ 32) (start -ℤ i)) (record { fits = modulo-lt (2 ^ 32) (omega arith) (start -ℤ i) })
 
 -- V8: Register::ToOperand of Register::FromOperand
 pub reg_stored : (rfs s : ℤ) → modulo (2 ^ 32) (rfs -ℤ reg_index rfs s) ≡ modulo (2 ^ 32) s

@@ -1,4 +1,4 @@
--- 02: "for tables whose widths stay at most 4, whose Flag8 is 1 byte wide and whose Flag16 at most 2": then nothing that is read is dropped.
+-- 02: "for tables whose widths stay at most 4, whose Flag8 is always 1 byte wide and whose Flag16 at most 2": then nothing that is read is dropped.
 use Rattle.std.specs.Prelude.{ℕ, ◌≤◌, ◌≡◌, true, List, [], ◌∷◌}
 use Rattle.tables.specs.Records.{width}
 use Rattle.operand.specs.Operand.{Kind, kind_of, is_list}

@@ -1,19 +1,19 @@
 // An instruction written: scale, opcode and operands in, bytes out. It is the way back of crate bytecode's `decode`.
 #![tactic(auto)]
 
-ghost use Rattle.std.specs.Prelude.{◌≡◌, true, false, cond, ◌&&◌, ◌%◌, ◌^◌, ◌≤◌, min, leb, ◌-ℤ◌};
+ghost use Rattle.std.specs.Prelude.{◌≡◌, true, false, cond, ◌&&◌, ◌%◌, ◌^◌, ◌≤◌, min, eqb, leb, ◌-ℤ◌, take, get_or, None};
 ghost use Rattle.words.specs.Le.{le_bytes};
 ghost use Rattle.words.specs.Signed.{modulo};
 ghost use Rattle.text.specs.Put.{Put};
 ghost use Rattle.text.specs.Written.{put_text};
 ghost use Rattle.text.specs.Numbers.{WrittenAs};
 ghost use Rattle.text.specs.mirror.Written.{WrittenBy};
-ghost use Rattle.flow.specs.Opcodes.{opcodes_of};
+ghost use Rattle.flow.specs.Opcodes.{opcodes_of, prefix_with};
 ghost use Rattle.tables.specs.Records.{width};
 ghost use Rattle.operand.specs.Operand.{is_list};
-ghost use Rattle.decoder.specs.Decode.{operand_types};
+ghost use Rattle.decoder.specs.Decode.{operand_types, record_of};
 ghost use Rattle.writer.specs.Bytes.{stored_of, count_of, operand_bytes, bytes_by, head_bytes};
-ghost use Rattle.writer.specs.Write.{same_operand, reads_back, operands_ok, scale_ok, opcode_fits, given, check_write, check_scale, written_bytes, write_call, ReadsBack};
+ghost use Rattle.writer.specs.Write.{same_operand, reads_back, operands_ok, scale_ok, opcode_fits, given, all_hold, check_write, check_scale, written_bytes, write_call, ReadsBack};
 
 use decoder::Instr;
 use operand::Operand;
@@ -68,8 +68,8 @@ fn scale_ok(opcodes: &[u8], scale: u8) -> bool
     let prefixes = tables::prefix_ops(opcodes);
     match scale {
         1 => true,
-        2 => prefixes.wide < 256,
-        4 => prefixes.extra_wide < 256,
+        2 => prefixes.wide.is_some(),
+        4 => prefixes.extra_wide.is_some(),
         _ => false,
     }
 }
@@ -80,16 +80,15 @@ fn opcode_fits(opcodes: &[u8], scale: u8, opcode: u8) -> bool
     ensures { result ≡ opcode_fits (opcodes_of opcodes.now) scale opcode }
 {
     let prefixes = tables::prefix_ops(opcodes);
-    let is_prefix = opcode as u16 == prefixes.wide || opcode as u16 == prefixes.extra_wide;
+    let is_prefix = prefixes.wide == Some(opcode) || prefixes.extra_wide == Some(opcode);
     (opcode as usize) < tables::opcode_count(opcodes) && (scale != 1 || !is_prefix)
 }
 
 // Whether the operands are as many as the opcode takes, and each reads back.
 fn operands_ok(opcodes: &[u8], types: &[u8], start: i32, instr: Instr) -> bool
-    ensures { result ≡ (leb instr.count 8 && operands_ok types.now instr.scale start false
+    ensures { result ≡ (leb instr.count 8 && all_hold (take instr.count instr.operands) && operands_ok types.now instr.scale start false
         (operand_types (opcodes_of opcodes.now) instr.opcode) (given instr)) }
 {
-    let operands = instr.operands;
     if instr.count > 8 {
         return false;
     }
@@ -99,10 +98,10 @@ fn operands_ok(opcodes: &[u8], types: &[u8], start: i32, instr: Instr) -> bool
     for k in 0..n {
         let t = tables::type_code(opcodes, instr.opcode, k);
         if !operand::counted(t, before) {
-            if j >= instr.count {
+            let Some(op) = place_at(&instr, j) else {
                 return false;
-            }
-            if !reads_back(types, instr.scale, start, t, operands[j].operand) {
+            };
+            if !reads_back(types, instr.scale, start, t, op) {
                 return false;
             }
             j += 1;
@@ -110,6 +109,18 @@ fn operands_ok(opcodes: &[u8], types: &[u8], start: i32, instr: Instr) -> bool
         before = t;
     }
     j == instr.count
+}
+
+// What place j of the given ones holds: none behind the last.
+fn place_at(instr: &Instr, j: usize) -> Option<Operand>
+    requires { instr.now.count ≤ 8 }
+    ensures { result ≡ (get_or (take instr.now.count instr.now.operands) j (record_of None)).operand }
+{
+    if j < instr.count {
+        instr.operands[j].operand
+    } else {
+        None
+    }
 }
 
 // Whether an operand of type code t reads back as it is.
@@ -133,12 +144,12 @@ fn list_count(types: &[u8], scale: u8, t: u8, op: Operand) -> u32
     (low_bytes(count_of(op) as u64, w) % 4294967296) as u32
 }
 
-// The same kind and the same numbers.
+// The same kind and the same numbers. What a derived `==` says would have to be shown for each pair of kinds.
 fn same_operand(a: Operand, b: Operand) -> bool
     ensures { result ≡ same_operand a b }
 {
     operand::kind_number(a) == operand::kind_number(b)
-        && words::eq_i64(operand::first_number(a), operand::first_number(b))
+        && operand::first_number(a) == operand::first_number(b)
         && operand::second_number(a) == operand::second_number(b)
 }
 
@@ -150,7 +161,7 @@ fn write_unchecked(
     start: i32,
     instr: Instr,
 ) -> Result<usize, Refusal>
-    requires { (scale_ok (opcodes_of opcodes.now) instr.scale ≡ true) × (instr.count ≤ 8) }
+    requires { (instr.count ≤ 8) × (all_hold (take instr.count instr.operands) ≡ true) }
     ensures { WrittenBy (put_text (written_bytes (opcodes_of opcodes.now) types.now start instr) out.old)
         result out.new }
 {
@@ -168,7 +179,7 @@ fn write_unchecked(
 // The bytes of an instruction.
 #[tactic(auto, unfolding(crate::specs::Bytes::instr_bytes))]
 fn put_instr(out: &mut [u8], opcodes: &[u8], types: &[u8], start: i32, instr: Instr) -> usize
-    requires { (scale_ok (opcodes_of opcodes.now) instr.scale ≡ true) × (instr.count ≤ 8) }
+    requires { (instr.count ≤ 8) × (all_hold (take instr.count instr.operands) ≡ true) }
     ensures { Put out.old 0 (written_bytes (opcodes_of opcodes.now) types.now start instr) out.new result }
 {
     let p = put_head(out, opcodes, instr.scale, instr.opcode);
@@ -177,20 +188,24 @@ fn put_instr(out: &mut [u8], opcodes: &[u8], types: &[u8], start: i32, instr: In
 
 // The prefix, if any, and the opcode.
 fn put_head(out: &mut [u8], opcodes: &[u8], scale: u8, opcode: u8) -> usize
-    requires { scale_ok (opcodes_of opcodes.now) scale ≡ true }
     ensures { Put out.old 0 (head_bytes (opcodes_of opcodes.now) scale opcode) out.new result }
+{
+    let Some(prefix) = prefix_of(opcodes, scale) else {
+        return text::put_byte(out, 0, opcode);
+    };
+    let p = text::put_byte(out, 0, prefix);
+    text::put_byte(out, p, opcode)
+}
+
+// The prefix opcode of a scale.
+fn prefix_of(opcodes: &[u8], scale: u8) -> Option<u8>
+    ensures { result ≡ cond (eqb scale 1) None (cond (eqb scale 2) (prefix_with (opcodes_of opcodes.now) 1) (prefix_with (opcodes_of opcodes.now) 2)) }
 {
     let prefixes = tables::prefix_ops(opcodes);
     match scale {
-        1 => text::put_byte(out, 0, opcode),
-        2 => {
-            let p = text::put_byte(out, 0, prefixes.wide as u8);
-            text::put_byte(out, p, opcode)
-        }
-        _ => {
-            let p = text::put_byte(out, 0, prefixes.extra_wide as u8);
-            text::put_byte(out, p, opcode)
-        }
+        1 => None,
+        2 => prefixes.wide,
+        _ => prefixes.extra_wide,
     }
 }
 
@@ -203,11 +218,10 @@ fn put_operands(
     start: i32,
     instr: Instr,
 ) -> usize
-    requires { instr.count ≤ 8 }
+    requires { (instr.count ≤ 8) × (all_hold (take instr.count instr.operands) ≡ true) }
     ensures { Put out.old at (bytes_by types.now instr.scale start false
         (operand_types (opcodes_of opcodes.now) instr.opcode) (given instr)) out.new result }
 {
-    let operands = instr.operands;
     let n = tables::operand_count(opcodes, instr.opcode).min(8);
     let mut p = text::saturating_add(at, 0);
     let mut j: usize = 0;
@@ -215,10 +229,10 @@ fn put_operands(
     for k in 0..n {
         let t = tables::type_code(opcodes, instr.opcode, k);
         if !operand::counted(t, before) {
-            if j >= instr.count {
+            let Some(op) = place_at(&instr, j) else {
                 return p;
-            }
-            p = put_operand(out, p, types, instr.scale, start, t, operands[j].operand);
+            };
+            p = put_operand(out, p, types, instr.scale, start, t, op);
             j += 1;
         }
         before = t;
@@ -259,14 +273,7 @@ fn put_operand(
 fn put_number(out: &mut [u8], at: usize, n: u64, w: usize) -> usize
     ensures { Put out.old at (le_bytes (min w 8) n) out.new result }
 {
-    let m = w.min(8);
-    let mut p = text::saturating_add(at, 0);
-    let mut v = n;
-    for k in 0..m {
-        p = text::put_byte(out, p, (v % 256) as u8);
-        v /= 256;
-    }
-    p
+    text::put_bytes(out, at, &n.to_le_bytes()[..w.min(8)])
 }
 
 // The low w bytes of n.
@@ -281,16 +288,15 @@ fn stored_of(start: i32, op: Operand) -> u64
     ensures { result ≡ stored_of start op }
 {
     match op {
-        Operand::Nothing => 0,
         Operand::Reg(i) => reg_bits(start, i) as u64,
-        Operand::RegList { first, count: _ } => reg_bits(start, first) as u64,
+        Operand::RegList { first, .. } => reg_bits(start, first) as u64,
         Operand::Imm(v) => words::low32(v) as u64,
         Operand::Idx(v) => v as u64,
         Operand::Flag8(v) => v as u64,
         Operand::Flag16(v) => v as u64,
         Operand::RuntimeId(v) => v as u64,
         Operand::IntrinsicId(v) => v as u64,
-        Operand::Raw { ty: _, value } => value,
+        Operand::Raw { value, .. } => value,
     }
 }
 
@@ -299,14 +305,15 @@ fn count_of(op: Operand) -> u32
     ensures { result ≡ count_of op }
 {
     match op {
-        Operand::RegList { first: _, count } => count,
+        Operand::RegList { count, .. } => count,
         _ => 0,
     }
 }
 
 // The 32 bits of a register's operand.
+#[tactic(auto, using(crate::proofs::Numbers::reg_law))]
 fn reg_bits(start: i32, i: i32) -> u32
     ensures { result ≡ modulo (2 ^ 32) (start -ℤ i) }
 {
-    words::bits32(words::wrapping_sub_i32(start, i))
+    start.wrapping_sub(i).cast_unsigned()
 }

@@ -1,15 +1,8 @@
 use Rattle.convert.proofs.Laws.{bad_here, bad_next, bad_end}
 use Rattle.convert.specs.Convert.{other_flow}
-use native.Mathlib.Nat.{sub-zero}
 use mathlib.Core.Path.{sym, ◌∙◌}
 use Rattle.convert.proofs.check_flows.Goals as goal
 use Rattle.refusal.specs.declared.Fault.TheVariants.{OtherFlow}
-
-pub loop-k-init : goal.loop-k-init
-loop-k-init c = (c.opcode_count-n.ensures, rw sub-zero)
-
-pub other_flow-requires : goal.other_flow-requires
-other_flow-requires c = rw (← c.opcode_count-n.ensures) c.loop-k-test.true
 
 pub returns-then-other_flow : goal.returns-then-other_flow
 returns-then-other_flow c = rw (← c.opcode_count-n.ensures) (c.at_record.ensures ∙ bad_here OtherFlow (other_flow c.args.opcodes.now) c.opcode_count-n.result c.loop-k.k c.loop-k.invariant.1 c.loop-k-test.true (sym c.other_flow.ensures ∙ c.if-other_flow.true))

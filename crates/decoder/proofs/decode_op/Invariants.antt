@@ -8,5 +8,5 @@ use Rattle.decoder.proofs.decode_op.Given as goal
 
 abbrev pub invariant-loop-k : goal.invariant-loop-k
 invariant-loop-k l =
-    (l.n ≡ min (operand_count l.opcodes l.opcode) 8) × (l.count ≤ l.k)
-    × (operands_at l.code (opcodes_of l.opcodes) l.types l.opcode l.scale l.reg_file_start l.at ≡ run_ops l.code (opcodes_of l.opcodes) l.types l.opcode l.scale l.reg_file_start (l.n - l.k) l.k (done_ops l.p l.count l.before l.slots))
+    (l.n ≡ min (operand_count l.opcodes l.head.opcode) 8) × (l.count ≤ l.k)
+    × (operands_at l.code (opcodes_of l.opcodes) l.types l.head.opcode l.head.scale l.reg_file_start l.head.at ≡ run_ops l.code (opcodes_of l.opcodes) l.types l.head.opcode l.head.scale l.reg_file_start (l.n - l.k) l.k (done_ops l.p l.count l.before l.slots))

@@ -1,10 +1,9 @@
 -- What is found once of a function: `listed_searched` of crate disasm and `walked_searched` of crate walk say what the calls make of it.
 use Rattle.std.specs.Prelude.{ℕ, suc, List, length, ℤ}
 use Rattle.layout.specs.declared.Layout.{Layout}
-use Rattle.tables.specs.Records.{prefix_op}
+use Rattle.tables.specs.Records.{prefixes_of}
 use Rattle.flow.specs.Opcodes.{opcodes_of}
-use Rattle.decoder.specs.declared.Decoded.{Decoded}
-use Rattle.decoder.specs.Decode.{decode_at}
+use Rattle.decoder.specs.Decode.{Decoded, decode_at}
 use Rattle.decoder.specs.Listed.{Listing, list_from}
 use Rattle.std.specs.Prelude.{Option}
 use Rattle.targets.specs.declared.PoolSlots.{PoolSlots}
@@ -16,13 +15,12 @@ function_of opcodes l p params = record {
   pool = p;
   frame = l.frame;
   params = params;
-  wide = prefix_op opcodes 1;
-  extra = prefix_op opcodes 2;
+  prefixes = prefixes_of opcodes;
 }
 
 -- what is decoded at a place of its code
 abbrev pub decoded_by : List ℕ → List ℕ → List ℕ → Function → ℕ → Decoded
-decoded_by code opcodes types f i = decode_at code (opcodes_of opcodes) types i f.frame.reg_file_start f.wide f.extra
+decoded_by code opcodes types f i = decode_at code (opcodes_of opcodes) types i f.frame.reg_file_start f.prefixes
 
 -- its listed instructions
 abbrev pub listed_by : List ℕ → List ℕ → List ℕ → Function → Listing

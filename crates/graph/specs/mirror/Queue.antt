@@ -1,16 +1,12 @@
 -- Laws `level_leaves`, `level_closed` (proofs/Walks.antt): from these the search has its `Answer`. No contract of a call cites them.
 -- What the functions of a breadth-first search keep among themselves: marks M, a queue q and the number k of its entries that count.
---     step_of g o k         the k-th step from o, and none past the last
 --     In q k p             p is among the first k entries
 --     Held M q k           the marks are 0 or 1, and 1 just at the entries of the queue; k is how many are 1
 --     Grown q k M' q' k' P the queue has grown, by entries of which P holds, and every p with P p is now in it
 --     Lowest g q lo hi f   f is the lowest entry in lo .. hi that exits, or none if none does
 use Rattle.std.specs.Prelude.{ℕ, ◌+◌, ◌≤◌, ◌<◌, ◌≡◌, true, false, cond, List, [], ◌∷◌, leb, get_or, length}
-use Rattle.std.specs.Prelude.{Option, None, Some, slice_get}
-use Rattle.graph.specs.Graph.{Graph, Step, Succ, exits}
-
-abbrev pub step_of : Graph → ℕ → ℕ → Option Step
-step_of g o k = slice_get (g.steps o) k
+use Rattle.std.specs.Prelude.{Option, None, Some}
+use Rattle.graph.specs.Graph.{Graph, Succ, exits}
 
 pub record In (q : List ℕ) (k p : ℕ) : Type 0 where
   pub at : ℕ

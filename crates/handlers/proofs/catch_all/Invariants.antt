@@ -2,4 +2,4 @@ use Rattle.handlers.proofs.Words.{Catching}
 use Rattle.handlers.proofs.catch_all.Given as goal
 
 abbrev pub invariant-loop-o : goal.invariant-loop-o
-invariant-loop-o l = Catching l.code l.opcodes l.handlers l.blocks l.wide l.extra l.initial.catches l.catches l.o
+invariant-loop-o l = Catching l.code l.opcodes l.handlers l.blocks l.prefixes l.initial.catches l.catches l.o

@@ -2,8 +2,10 @@
 -- The table that a search is lent: of each place of a code a word, 0 where no handler is, else one more than the handler's offset, or than 65,536,
 -- where no instruction starts, if that is lower. On the way it holds record numbers, each one more: of places, and of blocks of 256 places that a
 -- record holds whole, so that a record costs its blocks and at most two of them place by place.
-use Rattle.std.specs.Prelude.{ℕ, zero, suc, ◌+◌, ◌/◌, ◌≤◌, ◌<◌, min, max, ◌≡◌, ◌⊎◌, Bool, cond, ◌&&◌, List, eqb, leb, ltb, length, get_or}
+use Rattle.std.specs.Prelude.{ℕ, zero, suc, ◌+◌, ◌/◌, ◌≤◌, ◌<◌, min, max, ◌≡◌, ◌⊎◌, Bool, cond, ◌&&◌, List, leb, ltb, length, get_or}
 use Rattle.std.specs.Prelude.{Option, None, Some}
+use Rattle.tables.specs.Records.{is_op}
+use Rattle.tables.specs.declared.Prefixes.{Prefixes}
 use Rattle.flow.specs.Flow.{is_return}
 use Rattle.handlers.specs.Handlers.{handler_offset, is_held, handler_at}
 
@@ -17,9 +19,10 @@ unfoldable pub catch_word : List ℕ → Bool → ℕ → ℕ
 catch_word s returns o = cond returns 0 (handler_word (handler_at s o))
 
 -- the opcode of what is decoded at o: behind a prefix the next byte
-abbrev pub opcode_at : List ℕ → ℕ → ℕ → ℕ → ℕ
-opcode_at code wide extra o =
-    cond (eqb (get_or code o 0) wide) (get_or code (o + 1) 0) (cond (eqb (get_or code o 0) extra) (get_or code (o + 1) 0) (get_or code o 0))
+abbrev pub opcode_at : List ℕ → Prefixes → ℕ → ℕ
+opcode_at code prefixes o =
+    cond (is_op prefixes.wide (get_or code o 0)) (get_or code (o + 1) 0)
+    (cond (is_op prefixes.extra_wide (get_or code o 0)) (get_or code (o + 1) 0) (get_or code o 0))
 
 -- ---- record numbers
 -- one more than the number of the last of the first n records that holds o; 0 where none does
@@ -56,8 +59,8 @@ abbrev pub Laid : List ℕ → List ℕ → List ℕ → List ℕ → ℕ → �
 Laid P B P' B' a e v = (o : ℕ) → o < length P → top P B o ≤ v → top P' B' o ≡ cond (leb a o && ltb o e) v (top P B o)
 
 -- each place of a code has its word
-abbrev pub Caught : List ℕ → List ℕ → List ℕ → ℕ → ℕ → List ℕ → Type 0
-Caught code ops s wide extra C = (o : ℕ) → o < length code → get_or C o 0 ≡ catch_word s (is_return ops (opcode_at code wide extra o)) o
+abbrev pub Caught : List ℕ → List ℕ → List ℕ → Prefixes → List ℕ → Type 0
+Caught code ops s prefixes C = (o : ℕ) → o < length code → get_or C o 0 ≡ catch_word s (is_return ops (opcode_at code prefixes o)) o
 
 -- room of zeros for a code, and records that are few enough
 pub record Fits (code s C : List ℕ) : Type 0 where

@@ -1,4 +1,3 @@
-use mathlib.Core.Path.{refl}
 use native.Mathlib.Omega.{arith}
 use mir.Facts.{to_z-of_z}
 use mir.Syntax.{w32}
@@ -6,9 +5,6 @@ use mir.Val.{SFits}
 use Rattle.text.proofs.Put.{then}
 use borrow.Author.Rules.{rules}
 use Rattle.lines.proofs.put_entry.Goals as goal
-
-pub returns-in-None : goal.returns-in-None
-returns-in-None c = rw c.in-None.is (record { text = refl; end = c.saturating_add.ensures })
 
 pub returns-in-Some : goal.returns-in-Some
 returns-in-Some c =

@@ -1,3 +1,4 @@
+use mathlib.Core.Logic.{⊎_elim}
 use Rattle.lines.proofs.Laws.{goes_on, goes_ends}
 use Rattle.lines.specs.mirror.View.{elems_of}
 use Rattle.targets.specs.Targets.{found}
@@ -6,9 +7,5 @@ use Rattle.lines.proofs.put_goes.Goals as goal
 pub returns-in-On : goal.returns-in-On
 returns-in-On c = λ b.
     let a = c.args in
-    rw (goes_on (elems_of a.slots.now a.payload.now a.f) (found a.f.pool) a.flow a.instr c.in-On.is) c.put_byte.ensures
-
-pub returns-in-Ends : goal.returns-in-Ends
-returns-in-Ends c = λ b.
-    let a = c.args in
-    rw (goes_ends (elems_of a.slots.now a.payload.now a.f) (found a.f.pool) a.flow a.instr c.in-Ends.is) c.put_byte-in-Ends.ensures
+    let el = elems_of a.slots.now a.payload.now a.f in
+    rw (⊎_elim (goes_on el (found a.f.pool) a.flow a.instr) (goes_ends el (found a.f.pool) a.flow a.instr) c.in-On.is) c.put_byte.ensures

@@ -2,24 +2,26 @@ use Rattle.text.specs.Put.{Put}
 use Rattle.flow.specs.Opcodes.{opcodes_of}
 use Rattle.lines.specs.mirror.Parts.{instr_by}
 use Rattle.text.proofs.Put.{kept, then}
-use Prim.Native.Nat.{◌-◌, ◌+◌, ◌<◌}
+use Prim.Native.Nat.{◌-◌, ◌+◌, ◌<◌, ◌≤◌, ◌^◌}
 use mathlib.Core.Path.{◌≡◌, refl}
-use mathlib.Core.List.{◌++◌}
+use mathlib.Core.List.{◌++◌, append-nil}
 use native.Mathlib.Omega.{arith}
 use native.Mathlib.Nat.{sub-zero}
 use mir.Facts.{to_z-of_z}
 use mir.Syntax.{w32}
 use mir.Val.{SFits}
-use lib.ListN.{get_or}
-use Rattle.operand.specs.declared.Operand.TheVariants.{Nothing}
-use Rattle.bytecode.specs.Texts.{operand_text}
+use borrow.Author.Rules.{rules}
+use lib.ListN.{length, get_or}
+use Rattle.std.specs.Prelude.{None}
+use Rattle.decoder.specs.Decode.{record_of}
 use Rattle.targets.specs.Targets.{operand_of}
 use Rattle.targets.proofs.Laws.{operand_some}
-use Rattle.lines.specs.Line.{before, operands_by}
+use Rattle.lines.specs.Line.{before, shown_in, operands_by}
 use Rattle.lines.specs.mirror.View.{names_of}
 use Rattle.text.proofs.PutUpTo.{up_to_none, up_to_more, up_to_all, up_to_kept}
 use Rattle.lines.proofs.Laws.{operands_next, operands_end}
 use Rattle.lines.proofs.put_instr.Goals as goal
+use Rattle.lines.proofs.put_instr.Goals.{in-Some, in_default}
 
 pub loop-k-init : goal.loop-k-init
 loop-k-init c = λ i e m. rw sub-zero (up_to_none _ _ _ (omega (arith, c.instr_name-p.ensures.end)))
@@ -32,14 +34,18 @@ loop-k-preserved c =
     let n = c.min-n.result in
     let t : l.k < n = omega arith in
     let names = names_of a.types.now a.runtime.now a.intrinsic.now in
-    let f : SFits w32 a.f.params = record { sfits = c.type_inv.f.1.1.1.0.1 } in
+    let f : SFits w32 a.f.params = search rules in
+    let small : length c.instr_name-p.new.out ≤ 2 ^ 63 = omega (arith, s.well_formed, kept c.put_place-p.ensures, kept c.instr_name-p.ensures) in
     λ i e m.
-    let op : (get_or a.instr.operands l.k (record { operand = Nothing })).operand ≡ operand_of i l.k = rw (← e) (operand_some i l.k (omega (arith, t))) in
-    let r = simp (to_z-of_z f) at (rw op at c.render_operand-p.ensures) in
-    let u = before l.k ++ operand_text names a.f.frame a.f.params (operand_of i l.k) in
-    up_to_more u (operands_by names a.f.frame a.f.params i (l.k + 1) (n - (l.k + 1))) (omega (arith, s.well_formed, kept c.put_place-p.ensures, kept c.instr_name-p.ensures))
-    (operands_next names a.f.frame a.f.params i n l.k t) (l.invariant i e m)
-    (then (omega (arith, s.well_formed, kept c.put_place-p.ensures, kept c.instr_name-p.ensures, up_to_kept (l.invariant i e m))) c.put_before-p.ensures r)
+    let place : (get_or a.instr.operands l.k (record_of None)).operand ≡ operand_of i l.k = rw (← e) (operand_some i l.k (omega (arith, t))) in
+    let u = before l.k ++ shown_in names a.f.frame a.f.params (operand_of i l.k) in
+    let put : Put l.out l.p u c.match-operands-k.out c.match-operands-k.p =
+    elim c.match-operands-k.branch [
+      | in-Some w ↦ rw (w.out-is, w.p-is, ← place, w.in-Some.is)
+          (then (omega (arith, small, up_to_kept (l.invariant i e m))) c.put_before-p.ensures (simp (to_z-of_z f) at w.render_operand-p.ensures))
+      | in_default w ↦ rw (w.out-is, w.p-is, ← place, w.in_default.is, append-nil) c.put_before-p.ensures
+    ] in
+    up_to_more u (operands_by names a.f.frame a.f.params i (l.k + 1) (n - (l.k + 1))) small (operands_next names a.f.frame a.f.params i n l.k t) (l.invariant i e m) put
 
 written : (c : goal.After-loop-k) → let a = c.args in
     Put a.out.now 0 (instr_by a.bytes.now (opcodes_of a.opcodes.now) (names_of a.types.now a.runtime.now a.intrinsic.now) a.f.frame a.f.params a.instr) c.loop-k.out c.loop-k.p

@@ -1,16 +1,6 @@
-use mathlib.Core.Path.{refl}
 use native.Mathlib.Omega.{arith}
 use Rattle.text.proofs.Put.{then}
 use Rattle.lines.proofs.put_table.Goals as goal
-
-pub returns-in-Ok-None : goal.returns-in-Ok-None
-returns-in-Ok-None c = λ b.
-    let h = c.in-Ok-None.is in
-    let g = rw h at c.in-Ok-None.field-0-is in
-    rw (h, g) (record { text = refl; end = c.saturating_add.ensures })
-
-pub returns-in-Err : goal.returns-in-Err
-returns-in-Err c = λ b. rw c.in-Err.is (record { text = refl; end = c.saturating_add-in-Err.ensures })
 
 pub returns-in-Ok-Some : goal.returns-in-Ok-Some
 returns-in-Ok-Some c = λ b.

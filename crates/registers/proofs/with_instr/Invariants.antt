@@ -1,4 +1,4 @@
-use Rattle.std.proofs.Common.{◌≡◌, take, length}
+use Rattle.std.proofs.Common.{◌≡◌, take}
 use Rattle.registers.specs.Registers.{with_operands}
 use Rattle.registers.proofs.with_instr.Given as goal
 

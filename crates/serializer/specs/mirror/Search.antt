@@ -1,4 +1,4 @@
--- Laws `slot_searched_lem`, `raw_searched_lem`, `elem_searched_lem`, `len_searched_lem` (proofs/Searched.antt): on checked slots these are slot_at, raw_at, elemAt, array_len.
+-- Laws `slot_searched_lem`, `raw_searched_lem`, `elem_searched_lem`, `len_searched_lem` (proofs/Searched.antt): on checked slots these are slot_at, raw_at, elem_at, array_len.
 -- The binary search as the code makes it (proofs/Point.antt says what it finds among slots in order), and what is found from there downward.
 use Rattle.std.specs.Prelude.{ℕ, zero, suc, ◌+◌, ◌-◌, ◌/◌, Bool, cond, List, eqb, ltb}
 use Rattle.store.specs.Records.{slot_of}

@@ -3,7 +3,6 @@ use Rattle.std.specs.Prelude.{ℕ, List}
 use Rattle.std.specs.Prelude.{Option, Some, None}
 use Rattle.targets.specs.declared.PoolSlots.{PoolSlots}
 use Rattle.serializer.specs.declared.Elem.{Elem}
-use Rattle.serializer.specs.declared.Elem.TheVariants as elem
 use Rattle.serializer.specs.mirror.Search.{elem_searched}
 use Rattle.serializer.specs.mirror.Blocks.{Blocked}
 

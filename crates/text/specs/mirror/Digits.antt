@@ -1,4 +1,4 @@
--- Laws `decimal_two`, `decimal_hundreds`, `padded-four` and `column` (proofs/Texts.antt): the texts that are put by these are those of
+-- Laws `decimal_two`, `decimal_hundreds`, `padded_four` and `column` (proofs/Texts.antt): the texts that are put by these are those of
 -- ../Texts.antt.
 use Rattle.std.specs.Prelude.{ℕ, ◌+◌, ◌/◌, ◌%◌, cond, List, [], ◌∷◌, ◌++◌, ltb}
 use Rattle.text.specs.Texts.{hex_byte}

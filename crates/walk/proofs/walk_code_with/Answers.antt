@@ -13,7 +13,7 @@ walk_source-requires c =
     let a = c.args in
     let s = lent_files a.opcodes.now a.types.now a.layout.now a.objects.now a.slots.now a.payload.now in
     let e = c.function_of-f.ensures in
-    (lent_short s (given_of a.handlers.now) a.object a.code.now (sym c.check_lent.ensures ∙ c.in_ok-check_lent.was), record { wide = ap (λ (x : Function). x.wide) e; extra = ap (λ (x : Function). x.extra) e })
+    (lent_short s (given_of a.handlers.now) a.object a.code.now (sym c.check_lent.ensures ∙ c.in_ok-check_lent.was), ap (λ (x : Function). x.prefixes) e)
 
 pub returns-in_err-check_lent : goal.returns-in_err-check_lent
 unfolding walk_lent_with

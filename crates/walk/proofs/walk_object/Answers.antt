@@ -18,7 +18,7 @@ walk_source-requires c =
     let a = c.args in
     let f = files_of a.opcodes.now a.types.now a.runtime.now a.intrinsic.now a.layout.now a.objects.now a.slots.now a.payload.now in
     let e = c.function_of-f.ensures in
-    (object_short f (given_of a.handlers.now) a.object _ _ c.in_ok-h.h c.layout_of-shape.ensures (sym c.header_at_unchecked.ensures ∙ c.in_ok-h.was) c.lent-held.ensures, record { wide = ap (λ (x : Function). x.wide) e; extra = ap (λ (x : Function). x.extra) e })
+    (object_short f (given_of a.handlers.now) a.object _ _ c.in_ok-h.h c.layout_of-shape.ensures (sym c.header_at_unchecked.ensures ∙ c.in_ok-h.was) c.lent-held.ensures, ap (λ (x : Function). x.prefixes) e)
 
 pub returns-in_err-h : goal.returns-in_err-h
 unfolding walk_searched

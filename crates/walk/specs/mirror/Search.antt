@@ -7,9 +7,10 @@ use Rattle.refusal.specs.Check.{Check}
 use Rattle.header.specs.declared.Header.{Header}
 use Rattle.targets.specs.declared.PoolSlots.{PoolSlots}
 use Rattle.search.specs.declared.Walked.{Walked}
-use Rattle.refusal.specs.Check.{first_refusal, guarded_on}
+use Rattle.refusal.specs.declared.Fault.TheVariants as fault
+use Rattle.refusal.specs.Check.{refused, first_refusal, guarded_on}
 use Rattle.store.specs.declared.Object.{Object}
-use Rattle.tables.specs.Records.{prefix_op}
+use Rattle.tables.specs.Records.{prefixes_of}
 use Rattle.layout.specs.declared.Layout.{Layout}
 use Rattle.layout.specs.Layout.{layout_of}
 use Rattle.header.specs.mirror.Header.{header_searched}
@@ -18,8 +19,10 @@ use Rattle.targets.specs.Targets.{found}
 use Rattle.targets.specs.mirror.Search.{pool_searched}
 use Rattle.function.specs.declared.Function.{Function}
 use Rattle.function.specs.Files.{Files}
-use Rattle.function.specs.Code.{code_of, header_check, code_check, listing_check}
+use Rattle.function.specs.Code.{code_of, header_check, listing_check}
 use Rattle.function.specs.mirror.Pool.{pool_found}
+use Rattle.targets.specs.declared.BadSwitch.{BadSwitch}
+use Rattle.steps.specs.declared.Kept.{Kept}
 use Rattle.steps.specs.Steps.{Source, listing}
 use Rattle.steps.specs.mirror.Keeping.{Keeps}
 use Rattle.walk.specs.Walk.{Given, walk_source, held_check}
@@ -30,18 +33,22 @@ source_of code ops types slots payload handlers f =
     record { code = code; opcodes = opcodes_of ops; types = types; rfs = f.frame.reg_file_start; pooled = found f.pool; elem = pool_searched slots payload f.ts f.pool; handlers = handlers }
 
 -- the prefix opcodes that were found once
-pub record Prefixed (ops : List ℕ) (f : Function) : Type 0 where
-  pub wide : f.wide ≡ prefix_op ops 1
-  pub extra : f.extra ≡ prefix_op ops 2
+abbrev pub Prefixed : List ℕ → Function → Type 0
+Prefixed ops f = f.prefixes ≡ prefixes_of ops
 
 -- room of zeros
 abbrev pub Clear : List ℕ → Type 0
 Clear l = (t : ℕ) → get_or l t 0 ≡ 0
 
+-- number 16 where the table of an instruction at a place is refused
+abbrev pub kept_check : Result Kept BadSwitch → ℕ → Check
+kept_check (Ok k) at = Ok tt
+kept_check (Err e) at = refused fault.BadSwitch at
+
 -- one pass over a code: the checks, and the numbers that keep it
 pub record Started (s : Source) (heads words : List ℕ) (r : Check) : Type 0 where
   pub checked : r ≡ listing_check s.opcodes s.pooled (listing s)
-  pub keeps : code_check (listing s).outcome ≡ Ok tt → Keeps s heads words
+  pub keeps : (listing s).check ≡ Ok tt → Keeps s heads words
 
 -- an answer r and marks M are those of a call
 abbrev pub WalkedBy : Result Walked Refusal × List ℕ → Result Walked Refusal → List ℕ → Type 0

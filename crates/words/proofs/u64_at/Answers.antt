@@ -1,6 +1,6 @@
-use Rattle.std.proofs.Common.{sym}
-use Rattle.words.proofs.Le.{le_at_past}
+use Rattle.std.proofs.Common.{◌∙◌, arith}
+use Rattle.words.proofs.Le.{eight_chunk}
 use Rattle.words.proofs.u64_at.Goals as goal
 
-pub returns-then-s-i : goal.returns-then-s-i
-returns-then-s-i c = sym (le_at_past c.args.s.now _ _ c.if-s-i.true)
+pub returns : goal.returns
+returns c = let first = rw c.unwrap.ensures at c.first_chunk.ensures.cases in c.from_le_bytes.ensures ∙ eight_chunk c.args.s.now c.unwrap.result.now c.args.i _ (omega arith) first.same

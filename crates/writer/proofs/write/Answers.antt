@@ -1,4 +1,4 @@
-use Rattle.std.proofs.Common.{◌≡◌, List, [], ℕ, ℤ, Ok, Err, SFits, w32, sym, ◌∙◌}
+use Rattle.std.proofs.Common.{◌≡◌, List, [], ℕ, Ok, Err, SFits, w32, sym, ◌∙◌}
 use Rattle.std.proofs.lemmas.Result.{err_from_is_err_and}
 use borrow.Author.Rules.{rules}
 use mir.Facts.{to_z-of_z}
@@ -56,7 +56,7 @@ write_unchecked-requires c =
     let f : SFits w32 c.layout_of-start.result.frame.reg_file_start = search rules in
     let told = instr_checked a.opcodes.now a.types.now a.layout.now _ a.instr f c.layout_of-start.ensures c.check_write.ensures in
     let ok = accepted (opcodes_of a.opcodes.now) a.types.now (signed_value a.layout.now 13) a.instr (sym told ∙ c.in_ok-check_write.was) in
-    (ok.scale_fine, ok.few)
+    (ok.few, ok.hold)
 
 pub returns : goal.returns
 returns c =

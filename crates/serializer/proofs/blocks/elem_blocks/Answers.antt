@@ -14,6 +14,3 @@ loop-b-preserved c =
       simp length-set l.invariant.0,
       block_more a.slots.now a.first a.ts a.count l.blocks l.b c.window_of-w.result.from c.window_of-w.result.to (omega arith) l.invariant.1 (rw (← c.block_end.ensures) c.window_of-w.ensures),
     )
-
-pub returns : goal.returns
-returns c = c.loop-b.invariant.1

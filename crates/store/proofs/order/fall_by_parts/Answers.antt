@@ -5,18 +5,13 @@ use native.Mathlib.Omega.{arith}
 use lib.ListN.{get_or}
 use Rattle.laws.specs.Scan.{first_from}
 use Rattle.store.specs.mirror.Falls.{lower, Later}
-use Rattle.store.proofs.Parts.{fall_near, fall_edge, fall_far, fall_behind}
+use Rattle.store.proofs.Parts.{fall_near, fall_far, fall_behind}
 use Rattle.store.proofs.order.fall_by_parts.Goals as goal
 
 pub returns-then-near-edge : goal.returns-then-near-edge
 returns-then-near-edge c =
     let a = c.args in
     fall_near a.slots.now a.first a.count a.end c.first_fall_in-near.ensures (omega arith) (omega arith)
-
-pub returns-then-end-edge : goal.returns-then-end-edge
-returns-then-end-edge c =
-    let a = c.args in
-    fall_edge a.slots.now a.first a.count a.end c.first_fall_in-near.ensures (omega arith) (omega arith)
 
 -- what is written down of a part is the first lower index from its start, edge, on
 found : {s later : List ℕ} {end : ℕ} (part : ℕ) {edge far : ℕ} → Later s end later → 0 < part → edge ≡ part * 256 → edge < end → far ≡ get_or later part 0

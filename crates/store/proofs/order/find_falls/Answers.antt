@@ -5,7 +5,7 @@ use borrow.Author.Tests.{lt-ltb, le-ltb}
 use Rattle.laws.specs.Scan.{first_from}
 use Rattle.laws.proofs.Scan.{first_end, first-within}
 use Rattle.store.specs.mirror.Falls.{lower}
-use Rattle.store.proofs.Parts.{filled_start, filled_next, filled-all, lower_next}
+use Rattle.store.proofs.Parts.{filled_start, filled_next, lower_next}
 use Rattle.store.proofs.order.find_falls.Goals as goal
 use Rattle.store.proofs.order.find_falls.Goals.{then-here-before, else-here-before}
 
@@ -31,6 +31,3 @@ loop-k-preserved c =
       | else-here-before w ↦ next (w.fall-is ∙ rw (le-ltb _ _ w.if-here-before.false))
     ] in
     (omega arith, c.slot_index-before.ensures, found, filled_next a.slots.now a.end l.k (omega arith) (omega arith) found l.invariant.3)
-
-pub returns : goal.returns
-returns c = filled-all c.args.slots.now c.args.end c.loop-k.k (omega arith) c.loop-k.invariant.3

@@ -16,9 +16,6 @@ returns-then-n-lt8 c =
     ap (λ (v : ℕ). eqb v 0) (c.le_at.ensures ∙ ap (λ (w : ℕ). le_at f 0 w) n) ∙ ap (λ (v : ℕ). eqb (le_at f 0 (length f)) v) (sym (none 0 (length f)))
     ∙ word_last f [] c.type_inv.field no_bytes (length f) 0 0 (length f) (λ k l. absurd (omega arith)) (omega arith) (omega arith)
 
-pub loop-i-init : goal.loop-i-init
-loop-i-init c = (omega arith, λ k l. absurd (omega arith))
-
 pub returns-then-u64_at-ne0 : goal.returns-then-u64_at-ne0
 returns-then-u64_at-ne0 c =
     let f = c.args.field.now in

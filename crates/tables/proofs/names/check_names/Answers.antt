@@ -1,20 +1,9 @@
-use Rattle.std.proofs.Common.{ℕ, ◌/◌, not, length, sym, ap, ◌∙◌, arith, le-ltb}
-use native.Mathlib.Nat.{sub-zero}
-use Rattle.tables.proofs.Laws.{record_room}
+use Rattle.std.proofs.Common.{ℕ, ◌/◌, not, length, sym, ap, ◌∙◌, le-ltb}
 use Rattle.laws.proofs.Scan.{first-here, first_next, first_end}
 use Rattle.refusal.specs.Check.{at_record}
 use Rattle.tables.specs.Names.{bad_name}
 use Rattle.tables.proofs.names.check_names.Goals as goal
 use Rattle.refusal.specs.declared.Fault.TheVariants as fault
-
-pub loop-i-init : goal.loop-i-init
-loop-i-init c = rw sub-zero
-
-pub overflow_mul-i : goal.overflow_mul-i
-overflow_mul-i c = let h = record_room (length c.args.s.now) c.args.size c.loop-i.i c.loop-i-test.true in omega arith
-
-pub name_ok-requires : goal.name_ok-requires
-name_ok-requires c = let h = record_room (length c.args.s.now) c.args.size c.loop-i.i c.loop-i-test.true in omega arith
 
 pub returns-then-not-name_ok : goal.returns-then-not-name_ok
 returns-then-not-name_ok c =

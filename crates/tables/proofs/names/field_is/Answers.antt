@@ -1,12 +1,8 @@
 use Rattle.std.proofs.Common.{◌≡◌, not, sym, ap, ◌∙◌, arith, eq-eqb, ne_eqb}
-use native.Mathlib.Nat.{sub-zero}
 use Rattle.laws.specs.Scan.{first_from}
 use Rattle.laws.proofs.Scan.{first-here, first_next, first_end}
 use Rattle.tables.specs.Names.{differs, is_named}
 use Rattle.tables.proofs.names.field_is.Goals as goal
-
-pub loop-i-init : goal.loop-i-init
-loop-i-init c = rw sub-zero
 
 pub returns-then-byte_at : goal.returns-then-byte_at
 unfolding is_named

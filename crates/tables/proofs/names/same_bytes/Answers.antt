@@ -10,9 +10,6 @@ returns-then-n-lt8 c =
     let n : min (length a) 8 ≡ length a = omega arith in
     rw (c.le_at.ensures, c.le_at-then-n-lt8.ensures, n) (word_last a b d.type_inv.a d.type_inv.b (length a) 0 0 (length a) (λ k l. absurd (omega arith)) (omega arith) (omega arith))
 
-pub loop-i-init : goal.loop-i-init
-loop-i-init c = (omega arith, λ k l. absurd (omega arith))
-
 pub returns-then-u64_at : goal.returns-then-u64_at
 returns-then-u64_at c =
     let x = c.args in

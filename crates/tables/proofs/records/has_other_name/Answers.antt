@@ -4,9 +4,6 @@ use Rattle.laws.proofs.Scan.{first-here, first_next, first_end}
 use Rattle.tables.specs.Records.{fixed_types, has_type_name}
 use Rattle.tables.proofs.records.has_other_name.Goals as goal
 
-pub has_type_name-requires : goal.has_type_name-requires
-has_type_name-requires c = (c.loop-k-test.true, c.requires)
-
 pub returns-then-has_type_name : goal.returns-then-has_type_name
 returns-then-has_type_name c =
     let a = c.args in

@@ -2,12 +2,6 @@ use Rattle.std.proofs.Common.{le-ltb, lt-ltb}
 use Rattle.tables.specs.Records.{name_fits}
 use Rattle.tables.proofs.records.name_fits.Goals as goal
 
-pub has_type_name-requires : goal.has_type_name-requires
-has_type_name-requires c = (c.if-t-lt-FIXED_TYPES.true, c.requires.1)
-
-pub has_other_name-requires : goal.has_other_name-requires
-has_other_name-requires c = c.requires.1
-
 pub returns-then-t-lt-FIXED_TYPES : goal.returns-then-t-lt-FIXED_TYPES
 unfolding name_fits
 returns-then-t-lt-FIXED_TYPES c = rw (lt-ltb _ _ c.if-t-lt-FIXED_TYPES.true) c.has_type_name.ensures

@@ -1,14 +1,10 @@
-use Rattle.std.proofs.Common.{sym, ◌∙◌, mul-le-mul_right, arith, eq-eqb, ne_eqb}
-use native.Mathlib.Nat.{le-pred_of_lt}
+use Rattle.std.proofs.Common.{sym, ◌∙◌, eq-eqb, ne_eqb}
 use Rattle.tables.specs.Records.{width}
 use Rattle.tables.proofs.records.type_width.Goals as goal
 
 pub returns-then-byte_at-ne1 : goal.returns-then-byte_at-ne1
 unfolding width
 returns-then-byte_at-ne1 c = c.min.ensures ∙ sym (rw (ne_eqb _ _ (λ e. c.if-byte_at-ne1.true (c.byte_at.ensures ∙ e))))
-
-pub overflow_mul-size : goal.overflow_mul-size
-overflow_mul-size c = omega (arith, mul-le-mul_right c.args.scale (le-pred_of_lt c.byte_at-size.type_inv))
 
 pub returns-then-byte_at-eq1 : goal.returns-then-byte_at-eq1
 unfolding width

@@ -1,0 +1,12 @@
+use Rattle.std.proofs.Common.{◌≡◌, true, false, rules}
+use Rattle.std.proofs.lemmas.Iterator.{first_from_Range}
+use Rattle.store.specs.Check.{bad_alone}
+use Rattle.store.proofs.Search.{first_or_all}
+use Rattle.store.proofs.checks.good_slots.Goals as goal
+
+pub returns : goal.returns
+returns c =
+    let bad = bad_alone c.args.slots.now c.args.objects c.args.payload in
+    let first = first_or_all bad c.slot_count-n.result c.find-bad.result c.unwrap_or.ensures
+    (first_from_Range _ _ _ _ (λ k. bad k ≡ true) (λ k. bad k ≡ false) c.find-bad.ensures.ran (λ k q x. search rules) (λ k q x. (search rules, search rules))) in
+    rw c.slot_count-n.ensures at first
