@@ -39,17 +39,18 @@ pub record NameFiles : Type 0 where
   pub runtime : List ℕ
   pub intrinsic : List ℕ
 
--- The Rust's `render_operand`; V8: BytecodeDecoder::Decode's printing.
-unfoldable pub operand_text : NameFiles → Frame → ℤ → Operand → List ℕ
-operand_text files frame params (Reg i) = reg_name frame params i
-operand_text files frame params (RegList first count) = list_name frame params first count
-operand_text files frame params (Imm v) = ascii "[" ++ signed_decimal v ++ ascii "]"
-operand_text files frame params (Idx v) = ascii "[" ++ decimal v ++ ascii "]"
-operand_text files frame params (Flag8 v) = ascii "#" ++ decimal v
-operand_text files frame params (Flag16 v) = ascii "#" ++ decimal v
-operand_text files frame params (RuntimeId v) = ascii "[" ++ runtime_name files.runtime v ++ ascii "]"
-operand_text files frame params (IntrinsicId v) = ascii "[_" ++ intrinsic_name files.intrinsic v ++ ascii "]"
-operand_text files frame params (Raw ty v) = type_name files.types ty ++ ascii ":" ++ decimal v
+-- The Rust's `render_operand`; V8: BytecodeDecoder::Decode's printing. Of a place without an operand nothing.
+unfoldable pub operand_text : NameFiles → Frame → ℤ → Option Operand → List ℕ
+operand_text files frame params None = []
+operand_text files frame params (Some (Reg i)) = reg_name frame params i
+operand_text files frame params (Some (RegList first count)) = list_name frame params first count
+operand_text files frame params (Some (Imm v)) = ascii "[" ++ signed_decimal v ++ ascii "]"
+operand_text files frame params (Some (Idx v)) = ascii "[" ++ decimal v ++ ascii "]"
+operand_text files frame params (Some (Flag8 v)) = ascii "#" ++ decimal v
+operand_text files frame params (Some (Flag16 v)) = ascii "#" ++ decimal v
+operand_text files frame params (Some (RuntimeId v)) = ascii "[" ++ runtime_name files.runtime v ++ ascii "]"
+operand_text files frame params (Some (IntrinsicId v)) = ascii "[_" ++ intrinsic_name files.intrinsic v ++ ascii "]"
+operand_text files frame params (Some (Raw ty v)) = type_name files.types ty ++ ascii ":" ++ decimal v
 
 -- V8: Bytecodes::ToString(bytecode, scale, "."): the plain name, and the prefix behind a dot
 unfoldable pub instr_name : Opcodes → ℕ → ℕ → List ℕ

@@ -56,7 +56,7 @@ pub fn reg_name(out: &mut [u8], at: usize, frame: Frame, params: i32, index: i32
     text::put_signed32(out, p, index)
 }
 
-// An operand as text.
+// An operand as text; of a place without one nothing.
 #[tactic(auto, unfolding(crate::specs::Texts::operand_text))]
 pub fn render_operand(
     out: &mut [u8],
@@ -66,11 +66,14 @@ pub fn render_operand(
     intrinsic: &[u8],
     frame: Frame,
     params: i32,
-    op: Operand,
+    op: Option<Operand>,
 ) -> usize
     ensures { Put out.old at (operand_text
         (record { types = types.now; runtime = runtime.now; intrinsic = intrinsic.now }) frame params op) out.new result }
 {
+    let Some(op) = op else {
+        return text::saturating_add(at, 0);
+    };
     match op {
         Operand::Reg(i) => reg_name(out, at, frame, params, i),
         Operand::RegList { first, count } => list_name(out, at, frame, params, first, count),

@@ -52,6 +52,29 @@ form_runtime = record {
   lists = refl;
 }
 
+-- a table without prefix records is V8's where V8 has no prefix that a byte is
+abbrev v8_plain : Bytecodes
+v8_plain = record {
+  k_wide = 256;
+  k_extra_wide = 256;
+  k_debug_break_wide = 257;
+  k_debug_break_extra_wide = 258;
+  operand_types = λ op. get_or ((k_imm ∷ []) ∷ []) op [];
+}
+
+form_plain : V8Form v8_plain (opcodes_of (opcode 0 (9 ∷ []))) types 0x00 0x00
+unfolding first_marked first_from type_code code_of type_info is_scalable unscaled_size
+form_plain = record {
+  wide = refl;
+  extra = refl;
+  unbroken = refl;
+  known = omega arith;
+  number = refl;
+  few = omega arith;
+  typed = (refl, record { size = refl; scalable = refl; present = refl }, tt);
+  lists = refl;
+}
+
 -- P2, P3, P4, and P7 behind a Wide: the same bytes as in 01, under these opcodes
 v8_reads : map (λ code. v8_decoded v8 code (negsuc 5) 0) (
     (0x02 ∷ 0xff ∷ []) ∷ (0x00 ∷ 0x02 ∷ 0x80 ∷ 0x01 ∷ []) ∷ (0x01 ∷ 0x02 ∷ 0x00 ∷ 0x00 ∷ 0x00 ∷ 0x80 ∷ [])

@@ -1,6 +1,6 @@
 -- Which of our tables are V8's at an instruction, and what V8 reads there (V8.antt) as an instruction of ours. `v8_decoding` of
 -- proofs/V8.antt says that for such a table it is what we decode.
-use Rattle.std.specs.Prelude.{ℕ, suc, ◌+◌, ◌<◌, ◌≤◌, ◌≡◌, List, [], ◌∷◌, Bool, true, false, cond, not, ◌&&◌, ◌||◌, eqb, length, ℤ, nat_abs, Some, Ok}
+use Rattle.std.specs.Prelude.{ℕ, suc, ◌+◌, ◌<◌, ◌≤◌, ◌≡◌, List, [], ◌∷◌, Bool, true, false, cond, not, ◌&&◌, ◌||◌, eqb, length, ℤ, nat_abs, Option, Some, None, Ok}
 use Rattle.tables.specs.Records.{type_byte}
 use Rattle.flow.specs.Opcodes.{Opcodes, prefix_with}
 use Rattle.operand.specs.declared.Operand.{Operand}
@@ -50,10 +50,15 @@ counted after [] = not after
 counted true (t ∷ ts) = eqb (code_of t) (code_of k_reg_count) && counted false ts
 counted false (t ∷ ts) = counted (is_register_list t) ts
 
+-- the number of a prefix opcode; where the table has no record for it 256, which no byte is
+abbrev pub prefix_number : Option ℕ → ℕ
+prefix_number (Some op) = op
+prefix_number None = 256
+
 -- the table of an instruction that begins with the byte first and has opcode op is V8's, and no debugger has broken into it
 pub record V8Form (b : Bytecodes) (ops : Opcodes) (types : List ℕ) (first op : ℕ) : Type 0 where
-  pub wide : prefix_with ops 1 ≡ Some b.k_wide
-  pub extra : prefix_with ops 2 ≡ Some b.k_extra_wide
+  pub wide : prefix_number (prefix_with ops 1) ≡ b.k_wide
+  pub extra : prefix_number (prefix_with ops 2) ≡ b.k_extra_wide
   pub unbroken : (eqb first b.k_debug_break_wide || eqb first b.k_debug_break_extra_wide) ≡ false
   pub known : op < ops.many
   pub number : ops.operands op ≡ length (b.operand_types op)

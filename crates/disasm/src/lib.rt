@@ -300,10 +300,10 @@ fn put_each(
             runtime,
             intrinsic,
             f,
-            instr,
+            &instr,
         );
         let at = text::saturating_add(p, w);
-        p = lines::put_goes(out, at, slots, payload, blocks, f, flow, instr);
+        p = lines::put_goes(out, at, slots, payload, blocks, f, flow, &instr);
         i = end;
     }
     p
@@ -351,7 +351,7 @@ fn table_at(
     }
     let rfs = f.frame.reg_file_start;
     match decoder::decode_at(code, opcodes, types, at, rfs, f.prefixes) {
-        Ok(Some(instr)) => targets::jump_table_unchecked(f.pool, flow, instr),
+        Ok(Some(instr)) => targets::jump_table_unchecked(f.pool, flow, &instr),
         _ => Ok(None),
     }
 }

@@ -8,14 +8,14 @@ use lib.IntN.{ℤ}
 use Rattle.laws.specs.Ascii.{ascii}
 use Rattle.layout.specs.declared.Frame.{Frame}
 use Rattle.decoder.specs.declared.Instr.{Instr}
-use Rattle.bytecode.specs.Texts.{NameFiles}
+use Rattle.bytecode.specs.Texts.{NameFiles, operand_text}
 use Rattle.std.specs.Prelude.{Option}
 use Rattle.serializer.specs.declared.Elem.{Elem}
 use Rattle.flow.specs.declared.Flow.{Flow}
 use Rattle.flow.specs.declared.Kind.TheVariants.{On, Ends}
 use Rattle.targets.specs.Targets.{operand_of, jump_target, jump_table, entry_at}
 use Rattle.targets.specs.declared.Entries.{Entries}
-use Rattle.lines.specs.Line.{View, before, shown_in, operands_by, entry_text, shown_after, entries_from, bytes_of, line_by}
+use Rattle.lines.specs.Line.{View, before, operands_by, entry_text, shown_after, entries_from, bytes_of, line_by}
 use Rattle.lines.specs.mirror.Parts.{instr_by, goes_by}
 
 pub before_more : (k : ℕ) → (k ≡ 0 → ⊥) → before k ≡ ascii ", "
@@ -23,7 +23,7 @@ before_more zero h = absurd (h refl)
 before_more (suc k) h = refl
 
 module _ (names : NameFiles) (frame : Frame) (params : ℤ) (i : Instr) (n k : ℕ) where
-  pub operands_next : k < n → operands_by names frame params i k (n - k) ≡ before k ++ shown_in names frame params (operand_of i k) ++ operands_by names frame params i (k + 1) (n - (k + 1))
+  pub operands_next : k < n → operands_by names frame params i k (n - k) ≡ before k ++ operand_text names frame params (operand_of i k) ++ operands_by names frame params i (k + 1) (n - (k + 1))
   unfolding operands_by
   operands_next l = let e : n - k ≡ suc (n - (k + 1)) = omega arith in rw e
 

@@ -26,7 +26,7 @@ use Rattle.targets.specs.declared.Case.{Case}
 use Rattle.serializer.specs.declared.Elem.{Elem}
 use Rattle.targets.specs.Targets.{operand_of, here, distance_by, target_from, target_back, target_by, jump_target, jump_table, entry_at}
 use Rattle.targets.specs.declared.Entries.{Entries}
-use Rattle.lines.specs.Line.{View, before, shown_in, operands_by, target_text, entry_text, shown_after, entries_from, table_text, bytes_of, place_text, line_by}
+use Rattle.lines.specs.Line.{View, before, operands_by, target_text, entry_text, shown_after, entries_from, table_text, bytes_of, place_text, line_by}
 use Rattle.lines.specs.mirror.Room.{entries_of, target_room, line_room}
 use Rattle.operand.specs.declared.Operand.TheVariants as op
 use Rattle.flow.specs.declared.Kind.TheVariants as kind
@@ -94,26 +94,23 @@ module _ (frame : Frame) (params : ℤ) where
       two : (a b : ℤ) → length (reg_name frame params a ++ ascii "-" ++ reg_name frame params b) ≤ 45
       two a b = simp length-append (omega (arith, reg_room a, reg_room b))
 
-  operand_room : (files : NameFiles) (o : Operand) → length (operand_text files frame params o) ≤ 70
+  operand_room : (files : NameFiles) (o : Option Operand) → length (operand_text files frame params o) ≤ 70
   unfolding operand_text
-  operand_room files (op.Reg i) = omega (arith, reg_room i)
-  operand_room files (op.RegList first count) = omega (arith, list_room first count)
-  operand_room files (op.Imm v) = simp length-append (omega (arith, signed_room v))
-  operand_room files (op.Idx v) = simp length-append (omega (arith, digits_few v))
-  operand_room files (op.Flag8 v) = omega (arith, digits_few v)
-  operand_room files (op.Flag16 v) = omega (arith, digits_few v)
-  operand_room files (op.RuntimeId v) = simp length-append (omega (arith, runtime_room files.runtime v))
-  operand_room files (op.IntrinsicId v) = simp length-append (omega (arith, intrinsic_room files.intrinsic v))
-  operand_room files (op.Raw ty v) = simp length-append (omega (arith, name_room files.types (ty * 32) 28, digits_few v))
-
-  shown_room : (files : NameFiles) (o : Option Operand) → length (shown_in files frame params o) ≤ 70
-  shown_room files (Some o) = operand_room files o
-  shown_room files None = omega arith
+  operand_room files None = omega arith
+  operand_room files (Some (op.Reg i)) = omega (arith, reg_room i)
+  operand_room files (Some (op.RegList first count)) = omega (arith, list_room first count)
+  operand_room files (Some (op.Imm v)) = simp length-append (omega (arith, signed_room v))
+  operand_room files (Some (op.Idx v)) = simp length-append (omega (arith, digits_few v))
+  operand_room files (Some (op.Flag8 v)) = omega (arith, digits_few v)
+  operand_room files (Some (op.Flag16 v)) = omega (arith, digits_few v)
+  operand_room files (Some (op.RuntimeId v)) = simp length-append (omega (arith, runtime_room files.runtime v))
+  operand_room files (Some (op.IntrinsicId v)) = simp length-append (omega (arith, intrinsic_room files.intrinsic v))
+  operand_room files (Some (op.Raw ty v)) = simp length-append (omega (arith, name_room files.types (ty * 32) 28, digits_few v))
 
   operands_room : (files : NameFiles) (i : Instr) (k n : ℕ) → length (operands_by files frame params i k n) ≤ 72 * n
   unfolding operands_by
   operands_room files i k zero = omega arith
-  operands_room files i k (suc n) = simp length-append (omega (arith, before_room k, shown_room files (operand_of i k), operands_room files i (k + 1) n))
+  operands_room files i k (suc n) = simp length-append (omega (arith, before_room k, operand_room files (operand_of i k), operands_room files i (k + 1) n))
 
 -- ---- the target and the entries
 

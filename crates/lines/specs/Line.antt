@@ -4,7 +4,6 @@ use Rattle.std.specs.Prelude.{ℕ, zero, suc, ◌+◌, ◌-◌, min, List, [], �
 use Rattle.laws.specs.Ascii.{ascii}
 use Rattle.text.specs.Texts.{decimal, signed_decimal, hex_bytes, pad_left, pad_right}
 use Rattle.layout.specs.declared.Frame.{Frame}
-use Rattle.operand.specs.declared.Operand.{Operand}
 use Rattle.decoder.specs.declared.Instr.{Instr}
 use Rattle.flow.specs.declared.Flow.{Flow}
 use Rattle.flow.specs.Opcodes.{Opcodes}
@@ -31,15 +30,10 @@ abbrev pub before : ℕ → List ℕ
 before zero = ascii " "
 before (suc k) = ascii ", "
 
--- the operand in a place, if there is one
-abbrev pub shown_in : NameFiles → Frame → ℤ → Option Operand → List ℕ
-shown_in names frame params (Some o) = operand_text names frame params o
-shown_in names frame params None = []
-
 -- operands k to k + n - 1
 unfoldable pub operands_by : NameFiles → Frame → ℤ → Instr → ℕ → ℕ → List ℕ
 operands_by names frame params i k zero = []
-operands_by names frame params i k (suc n) = before k ++ shown_in names frame params (operand_of i k) ++ operands_by names frame params i (k + 1) n
+operands_by names frame params i k (suc n) = before k ++ operand_text names frame params (operand_of i k) ++ operands_by names frame params i (k + 1) n
 
 abbrev pub operands_text : View → Instr → List ℕ
 operands_text v i = operands_by v.names v.frame v.params i 0 (min i.count 8)

@@ -18,7 +18,7 @@ use function::Function;
 use targets::{BadSwitch, Case, Entries};
 
 // The first part of a line, from the start of the buffer that is lent: offset, bytes, name and operands. `bytes` are those of the instruction.
-// Its operands are taken out of it before anything is put, so that they are copied once.
+// The instruction is lent, here and below: it is long, and would be copied with each call.
 pub fn put_instr(
     out: &mut [u8],
     bytes: &[u8],
@@ -27,21 +27,19 @@ pub fn put_instr(
     runtime: &[u8],
     intrinsic: &[u8],
     f: Function,
-    instr: Instr,
+    instr: &Instr,
 ) -> usize
     ensures { Put out.old 0 (instr_by bytes.now (opcodes_of opcodes.now)
-        (names_of types.now runtime.now intrinsic.now) f.frame f.params instr) out.new result }
+        (names_of types.now runtime.now intrinsic.now) f.frame f.params instr.now) out.new result }
 {
     let frame = f.frame;
-    let operands = instr.operands;
     let n = instr.count.min(8);
     let p = put_place(out, bytes, instr.offset);
     let mut p = bytecode::instr_name(out, p, opcodes, instr.opcode, instr.scale);
     for k in 0..n {
         p = put_before(out, p, k);
-        if let Some(op) = operands[k].operand {
-            p = bytecode::render_operand(out, p, types, runtime, intrinsic, frame, f.params, op);
-        }
+        let op = instr.operands[k].operand;
+        p = bytecode::render_operand(out, p, types, runtime, intrinsic, frame, f.params, op);
     }
     p
 }
@@ -55,11 +53,11 @@ pub fn put_goes(
     blocks: &[u32],
     f: Function,
     flow: Flow,
-    instr: Instr,
+    instr: &Instr,
 ) -> usize
     ensures { PoolBlocked slots.now f.ts f.pool blocks.now
         → Put out.old at
-        (goes_by (elems_of slots.now payload.now f) (found f.pool) flow instr) out.new result }
+        (goes_by (elems_of slots.now payload.now f) (found f.pool) flow instr.now) out.new result }
 {
     match flow.kind {
         Kind::On | Kind::Ends => text::put_byte(out, at, b'\n'),
@@ -76,11 +74,11 @@ fn put_targets(
     blocks: &[u32],
     f: Function,
     flow: Flow,
-    instr: Instr,
+    instr: &Instr,
 ) -> usize
     ensures { PoolBlocked slots.now f.ts f.pool blocks.now
         → Put out.old at
-        (goes_by (elems_of slots.now payload.now f) (found f.pool) flow instr) out.new result }
+        (goes_by (elems_of slots.now payload.now f) (found f.pool) flow instr.now) out.new result }
 {
     let pool = f.pool;
     let target = targets::jump_target_in(slots, payload, blocks, f.ts, pool, flow, instr);

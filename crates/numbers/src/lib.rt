@@ -52,9 +52,6 @@ fn operand_number(op: Option<Operand>, j: u8) -> u64
     requires { j < 3 }
     ensures { result ≡ operand_number op j }
 {
-    let Some(op) = op else {
-        return 0;
-    };
     match j {
         0 => operand::kind_number(op) as u64,
         1 => operand::first_number(op).cast_unsigned(),

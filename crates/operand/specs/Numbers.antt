@@ -23,3 +23,7 @@ number_of o j = get_or (operand_numbers o) j (pos 0)
 abbrev pub place_numbers : Option Operand → List ℤ
 place_numbers (Some o) = operand_numbers o
 place_numbers None = pos 0 ∷ pos 0 ∷ pos 0 ∷ []
+
+-- number j of a place: 0 the kind of its operand, 1 and 2 the others
+abbrev pub place_number : Option Operand → ℕ → ℤ
+place_number p j = get_or (place_numbers p) j (pos 0)

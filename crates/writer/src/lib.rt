@@ -148,6 +148,7 @@ fn list_count(types: &[u8], scale: u8, t: u8, op: Operand) -> u32
 fn same_operand(a: Operand, b: Operand) -> bool
     ensures { result ≡ same_operand a b }
 {
+    let (a, b) = (Some(a), Some(b));
     operand::kind_number(a) == operand::kind_number(b)
         && operand::first_number(a) == operand::first_number(b)
         && operand::second_number(a) == operand::second_number(b)

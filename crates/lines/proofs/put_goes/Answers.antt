@@ -8,4 +8,4 @@ pub returns-in-On : goal.returns-in-On
 returns-in-On c = λ b.
     let a = c.args in
     let el = elems_of a.slots.now a.payload.now a.f in
-    rw (⊎_elim (goes_on el (found a.f.pool) a.flow a.instr) (goes_ends el (found a.f.pool) a.flow a.instr) c.in-On.is) c.put_byte.ensures
+    rw (⊎_elim (goes_on el (found a.f.pool) a.flow a.instr.now) (goes_ends el (found a.f.pool) a.flow a.instr.now) c.in-On.is) c.put_byte.ensures
