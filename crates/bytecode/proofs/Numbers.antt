@@ -5,7 +5,7 @@ use mathlib.Core.List.{List, [], ◌∷◌}
 use native.Mathlib.Omega.{arith}
 use lib.ListN.{length, drop}
 use Rattle.refusal.specs.Numbers.{Numbers}
-use Rattle.refusal.specs.declared.Refusal.{Refusal}
+use Rattle.refusal.specs.Refusal.{Refusal}
 use Rattle.refusal.proofs.Numbers.{refusal_back, refused_or, end_or, count}
 use Rattle.operand.proofs.Numbers.{Leading, leading, operand_leads}
 use Rattle.std.specs.Prelude.{Some, None, Ok, Err}

@@ -1,7 +1,7 @@
 -- The answers of the calls as numbers, for C.
 use Rattle.std.specs.Prelude.{ℕ, zero, suc, ◌≤◌, ◌≡◌, List, [], ◌∷◌, map, cond, eqb, ℤ, nat_abs}
 use Rattle.std.specs.Prelude.{Option, Some, None, Result, Ok, Err}
-use Rattle.refusal.specs.declared.Refusal.{Refusal}
+use Rattle.refusal.specs.Refusal.{Refusal}
 use Rattle.refusal.specs.Check.{Check}
 use Rattle.search.specs.declared.Walked.{Walked}
 use Rattle.refusal.specs.declared.Fault.TheVariants as fault

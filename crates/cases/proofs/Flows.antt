@@ -24,7 +24,7 @@ use Rattle.handlers.specs.Handlers.{handler_among, check_handlers}
 use Rattle.graph.specs.Graph.{is_start, exits, after, level, first_exit, finding, reached, marked, bits, mark_list}
 use Rattle.steps.specs.Steps.{entries_steps, instr_steps, steps_at, walk_graph}
 use Rattle.std.specs.Prelude.{None, Result, Ok, Err}
-use Rattle.refusal.specs.declared.Refusal.{Refusal}
+use Rattle.refusal.specs.Refusal.{Refusal}
 use Rattle.search.specs.declared.Walked.{Walked}
 use Rattle.refusal.specs.declared.Fault.TheVariants as fault
 use Rattle.search.specs.declared.Walked.TheVariants as walked

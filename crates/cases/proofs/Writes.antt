@@ -9,7 +9,7 @@ use Rattle.words.specs.Le.{le_at, le_bytes}
 use Rattle.words.specs.Signed.{modulo, wrap32, signed}
 use Rattle.refusal.specs.Check.{refusal_at}
 use Rattle.std.specs.Prelude.{Result, Ok, Err}
-use Rattle.refusal.specs.declared.Refusal.{Refusal}
+use Rattle.refusal.specs.Refusal.{Refusal}
 use Rattle.refusal.specs.declared.Fault.{Fault}
 use Rattle.refusal.specs.declared.Fault.TheVariants as fault
 use Rattle.tables.specs.Names.{name_ok, is_named}

@@ -7,7 +7,7 @@ use Rattle.bytecode.specs.Decode.{decode_one}
 use Rattle.lines.specs.Line.{View, line_text}
 use Rattle.targets.specs.Targets.{found}
 use Rattle.function.specs.Files.{Files}
-use Rattle.refusal.specs.declared.Refusal.{Refusal}
+use Rattle.refusal.specs.Refusal.{Refusal}
 use Rattle.search.specs.declared.Walked.{Walked}
 use Rattle.refusal.specs.declared.Fault.TheVariants as fault
 use Rattle.search.specs.declared.Walked.TheVariants as walked-as

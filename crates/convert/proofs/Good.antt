@@ -11,7 +11,7 @@ use lib.ListN.{length, get_or}
 use Rattle.laws.specs.Scan.{first_from}
 use Rattle.laws.proofs.Scan.{first-within, first_holds, first_none, first_is}
 use Rattle.laws.proofs.Tests.{and_left, and_right, and_both, under?}
-use Rattle.refusal.specs.declared.Refusal.{Refusal}
+use Rattle.refusal.specs.Refusal.{Refusal}
 use Rattle.std.specs.Prelude.{Ok, Err, Option, Some, None, is_some}
 use Rattle.refusal.specs.declared.Fault.{Fault}
 use Rattle.refusal.specs.Check.{Check}

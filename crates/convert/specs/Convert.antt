@@ -1,7 +1,7 @@
 -- 02, Wish 6: "Add conversion from 64-byte records, filled from document 01's names, unused bytes 0, and back."
 use Rattle.std.specs.Prelude.{ℕ, ◌*◌, ◌/◌, Bool, cond, not, ◌&&◌, List, [], ◌∷◌, ◌++◌, eqb, length, take, drop, replicate}
 use Rattle.std.specs.Prelude.{Result, Err}
-use Rattle.refusal.specs.declared.Refusal.{Refusal}
+use Rattle.refusal.specs.Refusal.{Refusal}
 use Rattle.refusal.specs.Check.{Check}
 use Rattle.refusal.specs.declared.Fault.TheVariants as fault
 use Rattle.refusal.specs.Check.{first_refusal, first_bad, guarded_on}

@@ -1,7 +1,7 @@
 -- What `jscd_convert` prints.
 use Rattle.std.specs.Prelude.{ℕ, List}
 use Rattle.std.specs.Prelude.{Result}
-use Rattle.refusal.specs.declared.Refusal.{Refusal}
+use Rattle.refusal.specs.Refusal.{Refusal}
 use Rattle.tables.specs.declared.Form.{Form}
 use Rattle.tables.specs.declared.Form.TheVariants.{Old, New}
 use Rattle.convert.specs.Convert.{to_new_call, to_old_call}

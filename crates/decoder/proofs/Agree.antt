@@ -13,7 +13,7 @@ use Rattle.words.specs.Le.{le_at}
 use Rattle.laws.specs.Scan.{first_from}
 use Rattle.laws.proofs.Tests.{and_left}
 use Rattle.laws.proofs.Scan.{first_shift}
-use Rattle.refusal.specs.declared.Refusal.{Refusal}
+use Rattle.refusal.specs.Refusal.{Refusal}
 use Rattle.refusal.specs.Check.{refusal_at}
 use Rattle.tables.specs.Records.{width}
 use Rattle.flow.specs.Opcodes.{Opcodes}

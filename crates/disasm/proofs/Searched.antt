@@ -3,7 +3,7 @@ use Prim.Native.Nat.{ℕ}
 use mathlib.Core.Path.{◌≡◌, ap, ◌∙◌}
 use mathlib.Core.List.{List}
 use Rattle.std.specs.Prelude.{Option, Result, Ok}
-use Rattle.refusal.specs.declared.Refusal.{Refusal}
+use Rattle.refusal.specs.Refusal.{Refusal}
 use Rattle.targets.specs.declared.PoolSlots.{PoolSlots}
 use Rattle.store.specs.declared.Object.{Object}
 use Rattle.store.specs.Records.{object_of}

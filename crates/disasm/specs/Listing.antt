@@ -3,7 +3,7 @@ use Rattle.std.specs.Prelude.{ℕ, List, [], ◌∷◌, ◌++◌, take, drop}
 use Rattle.laws.specs.Ascii.{ascii}
 use Rattle.refusal.specs.Check.{guarded_on}
 use Rattle.std.specs.Prelude.{Option, Result, Ok, Err}
-use Rattle.refusal.specs.declared.Refusal.{Refusal}
+use Rattle.refusal.specs.Refusal.{Refusal}
 use Rattle.targets.specs.declared.PoolSlots.{PoolSlots}
 use Rattle.text.specs.Texts.{decimal, signed_decimal}
 use Rattle.text.specs.Written.{put_text}

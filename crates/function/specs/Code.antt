@@ -1,7 +1,7 @@
 -- A function's header and code, the instruction at a place, and the checks that are met as code is decoded: 11 to 16.
 use Rattle.std.specs.Prelude.{ℕ, List, [], ◌∷◌, Bool, take, drop}
 use Rattle.std.specs.Prelude.{Option, Result, Ok, Err}
-use Rattle.refusal.specs.declared.Refusal.{Refusal}
+use Rattle.refusal.specs.Refusal.{Refusal}
 use Rattle.refusal.specs.Check.{Check}
 use Rattle.header.specs.declared.Header.{Header}
 use Rattle.targets.specs.declared.Entries.{Entries}

@@ -23,7 +23,7 @@ use Rattle.header.specs.Slots.{smi_by, field_num}
 use Rattle.header.specs.Calls.{header_call, smi_call, num_call}
 use Rattle.header.specs.Numbers.{header_numbers, smi_slot_numbers, num_field_numbers}
 use Rattle.std.specs.Prelude.{Result, Ok}
-use Rattle.refusal.specs.declared.Refusal.{Refusal}
+use Rattle.refusal.specs.Refusal.{Refusal}
 use Rattle.header.specs.declared.Header.{Header}
 use Rattle.refusal.specs.declared.Fault.{Fault}
 use Rattle.refusal.specs.declared.Fault.TheVariants as fault

@@ -6,7 +6,7 @@ use lib.IntN.{ℤ}
 use Rattle.refusal.specs.Numbers.{Numbers}
 use Rattle.refusal.proofs.Numbers.{one_by, refused_or, found_or, refusal_back, value, count}
 use Rattle.std.specs.Prelude.{Option, Some, None, Result, Ok, Err}
-use Rattle.refusal.specs.declared.Refusal.{Refusal}
+use Rattle.refusal.specs.Refusal.{Refusal}
 use Rattle.header.specs.declared.Header.{Header}
 use Rattle.serializer.proofs.Numbers.{smi_of}
 use Rattle.header.specs.Numbers.{header_numbers, smi_slot_numbers, num_field_numbers}

@@ -2,7 +2,7 @@
 -- the call answers.
 use Rattle.std.specs.Prelude.{ℤ, ℕ, Bool, List}
 use Rattle.std.specs.Prelude.{Option, Result, Ok, Err}
-use Rattle.refusal.specs.declared.Refusal.{Refusal}
+use Rattle.refusal.specs.Refusal.{Refusal}
 use Rattle.refusal.specs.Check.{Check}
 use Rattle.header.specs.declared.Header.{Header}
 use Rattle.refusal.specs.Check.{first_refusal, guarded}

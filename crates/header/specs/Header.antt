@@ -9,7 +9,7 @@ use Rattle.words.specs.Le.{le_at}
 use Rattle.refusal.specs.Check.{refusal_at}
 use Rattle.store.specs.declared.Object.{Object}
 use Rattle.std.specs.Prelude.{Option, Some, None, Result, Ok, Err}
-use Rattle.refusal.specs.declared.Refusal.{Refusal}
+use Rattle.refusal.specs.Refusal.{Refusal}
 use Rattle.refusal.specs.declared.Fault.TheVariants as fault
 use Rattle.serializer.specs.declared.Span.{Span}
 use Rattle.serializer.specs.Field.{raw_at}

@@ -3,7 +3,7 @@ use Rattle.std.specs.Prelude.{ℤ, ℕ, [], ◌∷◌, pos}
 use Rattle.refusal.specs.Numbers.{Numbers, refusal_numbers, answered, finds, finds_nothing}
 use Rattle.serializer.specs.Numbers.{smi_numbers}
 use Rattle.std.specs.Prelude.{Option, Some, None, Result, Ok, Err}
-use Rattle.refusal.specs.declared.Refusal.{Refusal}
+use Rattle.refusal.specs.Refusal.{Refusal}
 use Rattle.header.specs.declared.Header.{Header}
 
 -- the lines of the listing in their order, then the code's place in the payload and its length

@@ -4,7 +4,7 @@ use mathlib.Core.Path.{◌≡◌, refl, ap}
 use mathlib.Core.List.{List}
 use lib.IntN.{ℤ}
 use Rattle.std.specs.Prelude.{Option, Some, None, Ok, Err}
-use Rattle.refusal.specs.declared.Refusal.{Refusal}
+use Rattle.refusal.specs.Refusal.{Refusal}
 use Rattle.refusal.specs.Numbers.{Numbers, finds_nothing}
 use Rattle.refusal.proofs.Numbers.{one_by, refusal_back, refused_or, found_or, end_or, value, count}
 use Rattle.targets.specs.declared.Entries.{Entries}

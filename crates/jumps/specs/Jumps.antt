@@ -1,7 +1,7 @@
 -- The target of a jump, and the table of a switch and its entries, at a place of lent code, as calls of 01: the checks for what they are
 -- lent, in 01's order, then the instruction at the place. They are lent no name files: those of `Files` are empty.
 use Rattle.std.specs.Prelude.{ℕ, Bool, cond, List, ltb, Option, Some, None, Result, Ok, Err}
-use Rattle.refusal.specs.declared.Refusal.{Refusal}
+use Rattle.refusal.specs.Refusal.{Refusal}
 use Rattle.refusal.specs.Check.{refusal_at, guarded}
 use Rattle.targets.specs.declared.Case.{Case}
 use Rattle.refusal.specs.declared.Fault.TheVariants as fault

@@ -3,7 +3,7 @@
 use Rattle.std.specs.Prelude.{ℕ, ◌+◌, List, cond, leb, ltb, eqb, length, get_or, Option, Some, None, Result, Ok, Err}
 use Rattle.refusal.specs.Check.{refusal_at}
 use Rattle.prefix.specs.declared.Head.{Head}
-use Rattle.refusal.specs.declared.Refusal.{Refusal}
+use Rattle.refusal.specs.Refusal.{Refusal}
 use Rattle.refusal.specs.declared.Fault.{Fault}
 use Rattle.refusal.specs.declared.Fault.TheVariants as fault
 use Rattle.tables.specs.Records.{is_op}

@@ -9,7 +9,7 @@ use borrow.Author.Tests.{le-leb, lt-leb}
 use lib.Dec.{leb}
 use lib.ListN.{length, drop, replicate, length-append, length-replicate}
 use lib.Seq.{take-append_seam, drop-append_seam}
-use Rattle.refusal.specs.declared.Refusal.{Refusal}
+use Rattle.refusal.specs.Refusal.{Refusal}
 use Rattle.std.specs.Prelude.{Option, Result, Ok, Err}
 use Rattle.refusal.specs.Check.{Check}
 use Rattle.header.specs.declared.Header.{Header}

@@ -1,7 +1,7 @@
 -- What the programs print.
 use Rattle.std.specs.Prelude.{ℕ, ◌≤◌, ◌≡◌, List, ◌++◌, Bool, ◌&&◌, leb, length, take, drop, replicate}
 use Rattle.laws.specs.Ascii.{ascii}
-use Rattle.refusal.specs.declared.Refusal.{Refusal}
+use Rattle.refusal.specs.Refusal.{Refusal}
 use Rattle.std.specs.Prelude.{Result, Ok, Err}
 use Rattle.refusal.specs.Check.{Check}
 use Rattle.search.specs.declared.Walked.{Walked}

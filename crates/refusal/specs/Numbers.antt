@@ -2,7 +2,7 @@
 -- and values for each of its cases." Each enum's definition stands beside it; the calls promise through it, those for C too.
 -- A refusal has no values, any other answer has at least one: so no refusal is told as another answer.
 use Rattle.std.specs.Prelude.{ℕ, List, [], ◌∷◌, ℤ, pos, Ok, Err}
-use Rattle.refusal.specs.declared.Refusal.{Refusal}
+use Rattle.refusal.specs.Refusal.{Refusal}
 use Rattle.refusal.specs.Check.{Check}
 use Rattle.refusal.specs.Fault.{number_of}
 

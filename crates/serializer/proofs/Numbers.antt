@@ -8,7 +8,7 @@ use Rattle.refusal.proofs.Numbers.{one_by, refused_or, found_or, refusal_back, v
 use Rattle.store.proofs.Numbers.{value_by, value_back}
 use Rattle.serializer.specs.Numbers.{smi_numbers, slot_numbers, raw_numbers, len_numbers, elem_numbers, off_numbers}
 use Rattle.std.specs.Prelude.{Option, Some, None, Result, Ok, Err}
-use Rattle.refusal.specs.declared.Refusal.{Refusal}
+use Rattle.refusal.specs.Refusal.{Refusal}
 use Rattle.store.specs.declared.SlotValue.{SlotValue}
 use Rattle.serializer.specs.declared.Elem.{Elem}
 use Rattle.serializer.specs.declared.Elem.TheVariants as elem

@@ -3,7 +3,7 @@ use Rattle.std.specs.Prelude.{ℤ, ℕ, [], ◌∷◌, pos}
 use Rattle.refusal.specs.Numbers.{Numbers, refusal_numbers, answered, finds, finds_nothing}
 use Rattle.store.specs.Numbers.{value_fields}
 use Rattle.std.specs.Prelude.{Option, Some, None, Result, Ok, Err}
-use Rattle.refusal.specs.declared.Refusal.{Refusal}
+use Rattle.refusal.specs.Refusal.{Refusal}
 use Rattle.store.specs.declared.SlotValue.{SlotValue}
 use Rattle.serializer.specs.declared.Elem.{Elem}
 use Rattle.serializer.specs.declared.Elem.TheVariants as elem

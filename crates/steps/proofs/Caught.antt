@@ -10,7 +10,7 @@ use lib.ListN.{length, get_or}
 use lib.IntN.{ℤ}
 use Rattle.laws.specs.Scan.{first_from}
 use Rattle.laws.proofs.Tests.{by_test}
-use Rattle.refusal.specs.declared.Refusal.{Refusal}
+use Rattle.refusal.specs.Refusal.{Refusal}
 use Rattle.refusal.specs.Check.{refusal_at}
 use Rattle.graph.specs.Graph.{Step}
 use Rattle.graph.specs.Graph.Step.{to_offset}

@@ -5,7 +5,7 @@ use mathlib.Core.List.{List}
 use Rattle.refusal.specs.Numbers.{Numbers}
 use Rattle.refusal.proofs.Numbers.{one_by, refused_or, refusal_back, count}
 use Rattle.std.specs.Prelude.{Result, Ok, Err}
-use Rattle.refusal.specs.declared.Refusal.{Refusal}
+use Rattle.refusal.specs.Refusal.{Refusal}
 use Rattle.text.specs.Numbers.{written_numbers, WrittenAs}
 use Rattle.text.specs.mirror.Written.{WrittenBy}
 

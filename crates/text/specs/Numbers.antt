@@ -2,7 +2,7 @@
 use Rattle.std.specs.Prelude.{ℕ, ◌≡◌, List, [], ◌∷◌, pos}
 use Rattle.refusal.specs.Numbers.{Numbers, refusal_numbers}
 use Rattle.std.specs.Prelude.{Result, Ok, Err}
-use Rattle.refusal.specs.declared.Refusal.{Refusal}
+use Rattle.refusal.specs.Refusal.{Refusal}
 
 -- The value is the text's length, which is the place behind it too. proofs/Numbers.antt: the numbers are those of one answer only.
 abbrev pub written_numbers : Result ℕ Refusal → Numbers

@@ -2,7 +2,7 @@
 use Rattle.std.specs.Prelude.{ℕ, List, ◌++◌, cond, leb, length, drop}
 use Rattle.refusal.specs.Check.{refusal_at}
 use Rattle.std.specs.Prelude.{Result, Ok, Err}
-use Rattle.refusal.specs.declared.Refusal.{Refusal}
+use Rattle.refusal.specs.Refusal.{Refusal}
 use Rattle.refusal.specs.declared.Fault.TheVariants as fault
 
 -- the text t into the buffer o: "17: lent output buffer shorter than the whole output"

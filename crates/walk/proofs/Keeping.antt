@@ -10,7 +10,7 @@ use lib.Dec.{eqb}
 use lib.ListN.{length, get_or, set, length-set}
 use lib.Seq.{get_or-set_same, get_or-set_other}
 use Rattle.laws.proofs.Tests.{same?}
-use Rattle.refusal.specs.declared.Refusal.{Refusal}
+use Rattle.refusal.specs.Refusal.{Refusal}
 use Rattle.std.specs.Prelude.{None, Result, Ok, Err}
 use Rattle.refusal.specs.Check.{Check}
 use Rattle.std.specs.Result.{result_and, result_unwrap_or}

@@ -7,7 +7,7 @@ use lib.IntN.{ℤ}
 use Rattle.refusal.specs.Numbers.{Numbers}
 use Rattle.refusal.proofs.Numbers.{one_by, refused_or, count, refusal_back}
 use Rattle.std.specs.Prelude.{Result, Ok, Err}
-use Rattle.refusal.specs.declared.Refusal.{Refusal}
+use Rattle.refusal.specs.Refusal.{Refusal}
 use Rattle.search.specs.declared.Walked.{Walked}
 use Rattle.search.specs.declared.Walked.TheVariants as walked
 use Rattle.walk.specs.Numbers.{walked_numbers}

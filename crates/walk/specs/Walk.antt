@@ -2,7 +2,7 @@
 -- the steps of an instruction in crate steps.
 use Rattle.std.specs.Prelude.{ℕ, ◌≡◌, List, [], ◌++◌, ◌||◌, eqb, leb, ltb, length, drop}
 use Rattle.std.specs.Prelude.{Option, Result, Ok, Err}
-use Rattle.refusal.specs.declared.Refusal.{Refusal}
+use Rattle.refusal.specs.Refusal.{Refusal}
 use Rattle.refusal.specs.Check.{Check}
 use Rattle.header.specs.declared.Header.{Header}
 use Rattle.targets.specs.declared.PoolSlots.{PoolSlots}

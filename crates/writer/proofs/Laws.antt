@@ -9,7 +9,7 @@ use lib.ListN.{length, take, drop, length-append}
 use lib.Seq.{take-append_seam}
 use lib.IntN.{ℤ}
 use Rattle.laws.proofs.Tests.{and_left, and_right}
-use Rattle.refusal.specs.declared.Refusal.{Refusal}
+use Rattle.refusal.specs.Refusal.{Refusal}
 use Rattle.std.specs.Prelude.{Result, Ok, Err, Some}
 use Rattle.refusal.specs.Check.{Check}
 use Rattle.refusal.specs.declared.Fault.TheVariants as fault

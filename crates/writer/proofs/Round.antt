@@ -8,7 +8,7 @@ use native.Mathlib.Omega.{arith}
 use lib.ListN.{length, take, drop, length-append}
 use lib.IntN.{ℤ}
 use Rattle.words.proofs.Le.{Bytes}
-use Rattle.refusal.specs.declared.Refusal.{Refusal}
+use Rattle.refusal.specs.Refusal.{Refusal}
 use Rattle.flow.specs.Opcodes.{Opcodes, prefixes_with}
 use Rattle.operand.specs.declared.Operand.{Operand}
 use Rattle.std.specs.Prelude.{Some, None, Ok, Err}

@@ -15,7 +15,7 @@ use Rattle.laws.proofs.Tests.{and_left, and_right, and_both, clash, either, same
 use Rattle.words.specs.Le.{le_at, le_bytes}
 use Rattle.words.proofs.Le.{Bytes, le_at-lt}
 use Rattle.words.proofs.LeBytes.{length_bytes, le_of_bytes, bytes_mod, bytes_of-le}
-use Rattle.refusal.specs.declared.Refusal.{Refusal}
+use Rattle.refusal.specs.Refusal.{Refusal}
 use Rattle.refusal.specs.Check.{refusal_at}
 use Rattle.tables.specs.Records.{width}
 use Rattle.operand.specs.Operand.{kinds, kind_of, of_kind, is_list, interpret}

@@ -4,7 +4,7 @@ use Rattle.std.specs.Prelude.{ℕ, ◌+◌, List, [], ◌∷◌, cond, Option, S
 use Rattle.tables.specs.Records.{width}
 use Rattle.operand.specs.Operand.{is_list}
 use Rattle.operand.specs.mirror.Step.{is_counted}
-use Rattle.refusal.specs.declared.Refusal.{Refusal}
+use Rattle.refusal.specs.Refusal.{Refusal}
 use Rattle.decoder.specs.Decode.{Decoded}
 use Rattle.decoder.specs.declared.Extent.{Extent}
 

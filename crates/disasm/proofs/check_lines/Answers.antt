@@ -8,7 +8,7 @@ use Rattle.tables.specs.Records.{operand_count}
 use Rattle.decoder.specs.declared.Extent.{Extent}
 use Rattle.std.specs.Prelude.{Option, Some, Result, Ok}
 use Rattle.std.proofs.lemmas.Result.{err_from_is_err_and}
-use Rattle.refusal.specs.declared.Refusal.{Refusal}
+use Rattle.refusal.specs.Refusal.{Refusal}
 use Rattle.decoder.specs.Decode.{instr_in, Done}
 use Rattle.decoder.specs.mirror.Extent.{extent_of}
 use Rattle.decoder.proofs.Listed.{past, decode_end}

@@ -4,7 +4,7 @@ use mathlib.Core.List.{List}
 use Rattle.function.specs.Files.{files_of}
 use Rattle.std.specs.Prelude.{Result}
 use Rattle.std.proofs.lemmas.Result.{err_from_is_err_and}
-use Rattle.refusal.specs.declared.Refusal.{Refusal}
+use Rattle.refusal.specs.Refusal.{Refusal}
 use Rattle.disasm.proofs.Searched.{object_listed}
 use Rattle.disasm.proofs.list_object.Goals as goal
 

@@ -2,7 +2,7 @@
 -- of ../Listing.antt.
 use Rattle.std.specs.Prelude.{ℕ, ◌+◌, ◌-◌, ◌≤◌, min, ◌≡◌, List, [], ◌∷◌, Bool}
 use Rattle.std.specs.Prelude.{Result, Ok, Err}
-use Rattle.refusal.specs.declared.Refusal.{Refusal}
+use Rattle.refusal.specs.Refusal.{Refusal}
 use Rattle.refusal.specs.Check.{Check}
 use Rattle.text.specs.Put.{place}
 use Rattle.decoder.specs.declared.Instr.{Instr}

@@ -1,7 +1,7 @@
 -- The listing by the searches that the code makes: `listed_searched` of proofs/Searched.antt says that on checked files it is `list_object`.
 use Rattle.std.specs.Prelude.{ℕ, List, take, drop}
 use Rattle.std.specs.Prelude.{Option, Result}
-use Rattle.refusal.specs.declared.Refusal.{Refusal}
+use Rattle.refusal.specs.Refusal.{Refusal}
 use Rattle.targets.specs.declared.PoolSlots.{PoolSlots}
 use Rattle.store.specs.declared.Object.{Object}
 use Rattle.layout.specs.declared.Layout.{Layout}

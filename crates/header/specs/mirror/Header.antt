@@ -2,7 +2,7 @@
 use Rattle.std.specs.Prelude.{ℕ, List}
 use Rattle.store.specs.declared.Object.{Object}
 use Rattle.std.specs.Prelude.{Option, Result}
-use Rattle.refusal.specs.declared.Refusal.{Refusal}
+use Rattle.refusal.specs.Refusal.{Refusal}
 use Rattle.header.specs.declared.Header.{Header}
 use Rattle.serializer.specs.mirror.Search.{raw_searched}
 use Rattle.layout.specs.declared.Layout.{Layout}

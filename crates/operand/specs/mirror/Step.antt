@@ -7,7 +7,7 @@ use Rattle.refusal.specs.Check.{refusal_at}
 use Rattle.operand.specs.Operand.{is_list, interpret}
 use Rattle.operand.specs.declared.Step.{Step}
 use Rattle.operand.specs.declared.Operand.{Operand}
-use Rattle.refusal.specs.declared.Refusal.{Refusal}
+use Rattle.refusal.specs.Refusal.{Refusal}
 use Rattle.refusal.specs.declared.Fault.TheVariants as fault
 
 -- a RegCount (8) right after a list, which has read it

@@ -4,7 +4,7 @@ use Prim.Native.Nat.{ℕ}
 use Rattle.function.specs.Files.{Files}
 use Rattle.std.specs.Prelude.{Result}
 use Rattle.std.proofs.lemmas.Result.{err_from_is_err_and}
-use Rattle.refusal.specs.declared.Refusal.{Refusal}
+use Rattle.refusal.specs.Refusal.{Refusal}
 use Rattle.search.specs.declared.Walked.{Walked}
 use Rattle.walk.proofs.Numbers.{walked_numbers_one}
 use Rattle.program.proofs.Laws.{walk_within, walk_blind, walk_beyond, walk_refused}

@@ -1,4 +1,4 @@
 use Rattle.refusal.proofs.refuse_unless.Goals as goal
 
 pub returns-else-good : goal.returns-else-good
-returns-else-good c = rw c.if-good.false
+returns-else-good g c = rw c.if-good.false

@@ -2,7 +2,7 @@
 -- proofs/Searched.antt say that they are those of ../Walk.antt.
 use Rattle.std.specs.Prelude.{ℕ, ◌≡◌, List, get_or}
 use Rattle.std.specs.Prelude.{Option, Result, Ok, Err}
-use Rattle.refusal.specs.declared.Refusal.{Refusal}
+use Rattle.refusal.specs.Refusal.{Refusal}
 use Rattle.refusal.specs.Check.{Check}
 use Rattle.header.specs.declared.Header.{Header}
 use Rattle.targets.specs.declared.PoolSlots.{PoolSlots}
