@@ -53,7 +53,8 @@ fn takes_handlers(rt: &impl Env, what: Program, from: u8, to: u8) -> bool {
     }
 }
 
-// The program on the files from argument first on, below to, and with the handler records of an argument, if any.
+// The program on the files from argument first on, below to, and with the handler records of an argument, if any. Argument 0, the program's own name, is no
+// file: for it stand the usual names.
 fn run_files(
     rt: &(impl Files + Env + Print + Eprint),
     what: Program,
@@ -64,7 +65,7 @@ fn run_files(
     if to == first {
         run_by(rt, what, None, handlers);
     } else if first <= to && to - first == 8 {
-        run_by(rt, what, Some(first), handlers);
+        run_by(rt, what, (first != 0).then_some(first), handlers);
     } else {
         usage(rt, what);
     }

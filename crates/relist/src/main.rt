@@ -7,11 +7,11 @@ mod for_c;
 mod listings;
 mod shown;
 
-use vectors::calls::Call;
+use vectors::calls::{Call, row};
 use vectors::counts::{
     Counts, NO_TOTAL, Outcome, Total, counted, no_counts, numbered, with_unknown,
 };
-use vectors::items::{Files, Item, Items, Kind, Part, files_after, lent, no_files};
+use vectors::items::{Files, Item, Items, Kind, Part, files_after, kind_of, lent, no_files};
 use vectors::lines::{both, print_counts, print_total, print_wrong, read};
 
 // The recordings, and whether the listings of each are printed.
@@ -48,12 +48,12 @@ fn relist_in(
     shows: bool,
     buffer: &mut [u8; 1048576],
 ) -> Total {
-    let len = read(rt, name, buffer);
+    let len = read(rt, name.as_bytes(), buffer);
     let whole = Part { at: 0, len };
     if shows {
         shown::show_file(rt, lent(buffer, whole));
     }
-    print_counts(rt, name, ask_file(lent(buffer, whole)))
+    print_counts(rt, name.as_bytes(), ask_file(lent(buffer, whole)))
 }
 
 fn ask_file(bytes: &[u8]) -> Counts {
@@ -67,18 +67,21 @@ fn ask_file(bytes: &[u8]) -> Counts {
 }
 
 fn counts_after(bytes: &[u8], files: Files, counts: Counts, item: Item) -> Counts {
-    match item.kind {
+    match kind_of(item) {
         Some(Kind::Sets(_) | Kind::Names(_)) => counts,
-        Some(Kind::Call(call)) => counts_call(bytes, files, numbered(counts), call, item.body),
+        Some(Kind::Call(number)) => counts_call(bytes, files, numbered(counts), number, item.body),
         None => with_unknown(counts),
     }
 }
 
 // A listing, a target and an entry are asked of their calls for C too; a listing not where a file is longer than the listing program reads: then
-// the program alone refuses.
-fn counts_call(bytes: &[u8], files: Files, counts: Counts, asked: Call, body: Part) -> Counts {
+// the program alone refuses. Each call has the row of its number.
+fn counts_call(bytes: &[u8], files: Files, counts: Counts, number: u8, body: Part) -> Counts {
     let call = lent(bytes, body);
-    let after = counted(counts, asked, answered(bytes, files, asked, call));
+    let Ok(asked) = Call::try_from(number) else {
+        return counted(counts, row(number), Outcome::Differs);
+    };
+    let after = counted(counts, row(number), answered(bytes, files, asked, call));
     let (beside, same) = match asked {
         Call::Listing if for_c::is_short(files) => {
             (Call::JscdList, for_c::list(bytes, files, call))
@@ -88,7 +91,7 @@ fn counts_call(bytes: &[u8], files: Files, counts: Counts, asked: Call, body: Pa
         Call::JumpEntry => (Call::JscdEntry, for_c::entry(bytes, files, call)),
         _ => return after,
     };
-    counted(after, beside, Outcome::from(same))
+    counted(after, Some(beside), Outcome::from(same))
 }
 
 // Our own function, on the same files.

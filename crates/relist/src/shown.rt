@@ -1,13 +1,15 @@
 // Prints the listings of a vector file: what the listing program prints for the same files.
 use crate::listings;
-use vectors::calls::Call;
 use vectors::items::{Files, Items, Kind, Part, files_after, lent, no_files};
+
+// The number of the listing among the functions.
+const LISTING: u8 = 0;
 
 pub fn show_file(rt: &impl Print, bytes: &[u8]) {
     let mut files = no_files();
     for item in Items::new(bytes) {
         files = files_after(bytes, files, item);
-        if matches!(item.kind, Some(Kind::Call(Call::Listing))) {
+        if matches!(item.kind, Some(Kind::Call(LISTING))) {
             show_listing(rt, bytes, files);
         }
     }

@@ -6,11 +6,11 @@ mod for_c;
 mod instructions;
 mod slots;
 
-use vectors::calls::Call;
+use vectors::calls::{Call, row};
 use vectors::counts::{
     Counts, NO_TOTAL, Outcome, Total, counted, no_counts, numbered, with_unknown,
 };
-use vectors::items::{Files, Item, Items, Kind, Part, files_after, lent, no_files};
+use vectors::items::{Files, Item, Items, Kind, Part, files_after, kind_of, lent, no_files};
 use vectors::lines::{both, print_counts, print_total, print_wrong, read};
 
 // The recordings, in the order in which their counts are printed.
@@ -47,9 +47,9 @@ fn replay_in(
     name: &str,
     buffer: &mut [u8; 1048576],
 ) -> Total {
-    let len = read(rt, name, buffer);
+    let len = read(rt, name.as_bytes(), buffer);
     let whole = Part { at: 0, len };
-    print_counts(rt, name, replay_file(lent(buffer, whole)))
+    print_counts(rt, name.as_bytes(), replay_file(lent(buffer, whole)))
 }
 
 fn replay_file(bytes: &[u8]) -> Counts {
@@ -63,19 +63,31 @@ fn replay_file(bytes: &[u8]) -> Counts {
 }
 
 fn counts_after(bytes: &[u8], files: Files, counts: Counts, item: Item) -> Counts {
-    match item.kind {
+    match kind_of(item) {
         Some(Kind::Sets(_) | Kind::Names(_)) => counts,
-        Some(Kind::Call(call)) => counts_call(bytes, files, numbered(counts), call, item.body),
+        Some(Kind::Call(number)) => counts_call(bytes, files, numbered(counts), number, item.body),
         None => with_unknown(counts),
     }
 }
 
 // Decoding is asked of the call for C too.
-fn counts_call(bytes: &[u8], files: Files, counts: Counts, call: Call, body: Part) -> Counts {
-    let after = counted(counts, call, calls::replayed(bytes, files, call, body));
+fn counts_call(bytes: &[u8], files: Files, counts: Counts, number: u8, body: Part) -> Counts {
+    let Ok(call) = Call::try_from(number) else {
+        return counted(counts, row(number), Outcome::Differs);
+    };
+    let outcome = calls::replayed(bytes, files, call, body);
+    let after = counted(counts, row_of(call, number), outcome);
     if !matches!(call, Call::Decode) {
         return after;
     }
     let same = for_c::decode(bytes, files, lent(bytes, body));
-    counted(after, Call::JscdDecode, Outcome::from(same))
+    counted(after, Some(Call::JscdDecode), Outcome::from(same))
+}
+
+// The conversions have rows of their own; any other call has the row of its number.
+fn row_of(call: Call, number: u8) -> Option<Call> {
+    match call {
+        Call::JscdToNew | Call::JscdToOld => Some(call),
+        _ => row(number),
+    }
 }

@@ -13,7 +13,9 @@ use vectors::counts::{
     Counts, NO_TOTAL, Outcome, Total, counted, no_counts, numbered, unasked, with_codes,
     with_unknown,
 };
-use vectors::items::{Files, Item, Items, Kind, Part, contents, files_after, lent, no_files};
+use vectors::items::{
+    Files, Item, Items, Kind, Part, contents, files_after, kind_of, lent, no_files,
+};
 use vectors::lines::{both, print_counts, print_total, print_wrong, read};
 
 // The recordings, and whether the named walks of each are printed; the last three have handler records.
@@ -53,10 +55,10 @@ fn rewalk_in(
     shows: bool,
     buffer: &mut [u8; 1048576],
 ) -> Total {
-    let len = read(rt, name, buffer);
+    let len = read(rt, name.as_bytes(), buffer);
     let whole = Part { at: 0, len };
     let seen = ask_file(rt, lent(buffer, whole), shows);
-    let total = print_counts(rt, name, seen.counts);
+    let total = print_counts(rt, name.as_bytes(), seen.counts);
     tries::print(rt, seen.tries);
     total
 }
@@ -90,10 +92,10 @@ fn counts_after(
     shows: bool,
 ) -> Counts {
     let call = lent(bytes, item.body);
-    match item.kind {
+    match kind_of(item) {
         Some(Kind::Sets(_) | Kind::Names(_)) => counts,
-        Some(Kind::Call(asked)) => {
-            counts_call(rt, bytes, files, numbered(counts), asked, call, shows)
+        Some(Kind::Call(function)) => {
+            counts_call(rt, bytes, files, numbered(counts), function, call, shows)
         }
         None => with_unknown(counts),
     }
@@ -105,10 +107,13 @@ fn counts_call(
     bytes: &[u8],
     files: Files,
     counts: Counts,
-    asked: Call,
+    function: u8,
     call: &[u8],
     shows: bool,
 ) -> Counts {
+    let Ok(asked) = Call::try_from(function) else {
+        return unasked(counts);
+    };
     let number = shows.then_some(counts.number);
     let with = Some(contents(bytes, files, File::Handlers));
     let (same, beside, told) = match asked {
@@ -135,13 +140,13 @@ fn counts_call(
         Call::WalkLastBytes => return counts_last_bytes(bytes, files, counts, call),
         _ => return unasked(counts),
     };
-    let after = counted(counts, asked, Outcome::from(same));
-    counted(after, beside, Outcome::from(told))
+    let after = counted(counts, Some(asked), Outcome::from(same));
+    counted(after, Some(beside), Outcome::from(told))
 }
 
 // Each call asks 256 codes for each prefix.
 fn counts_last_bytes(bytes: &[u8], files: Files, counts: Counts, call: &[u8]) -> Counts {
     let same = each::last_bytes(bytes, files, call);
-    let after = counted(counts, Call::WalkLastBytes, Outcome::from(same));
+    let after = counted(counts, Some(Call::WalkLastBytes), Outcome::from(same));
     with_codes(after, u64::from(words::u32_at(call, 8)) * 256)
 }

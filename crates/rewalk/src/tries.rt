@@ -2,7 +2,7 @@
 // real functions with V8's own handler tables each is closed, and each handler is reached.
 use crate::walks;
 use refusal::Refusal;
-use vectors::calls::{Call, File};
+use vectors::calls::File;
 use vectors::items::{Files, Item, Kind, contents};
 use walk::Walked;
 
@@ -24,10 +24,13 @@ pub fn no_tries() -> Tries {
     }
 }
 
+// The number of the walk with records among the functions.
+const WALK_WITH: u8 = 27;
+
 // Counts the functions of the walks with records.
 pub fn tries_after(bytes: &[u8], files: Files, tries: Tries, item: Item) -> Tries {
     match item.kind {
-        Some(Kind::Call(Call::WalkWith)) => with_function(bytes, files, tries),
+        Some(Kind::Call(WALK_WITH)) => with_function(bytes, files, tries),
         _ => tries,
     }
 }

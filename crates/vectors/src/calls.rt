@@ -1,4 +1,5 @@
 // The calls that are asked again, and the files that they are asked on.
+ghost use Rattle.vectors.specs.Numbers.{HasNumber, NumbersFile};
 
 // The functions of the recordings, with the calls for C that are asked beside them, in the order in which their counts are printed.
 #[derive(Clone, Copy)]
@@ -112,39 +113,61 @@ pub const FILES: usize = 10;
 #[derive(Clone, Copy)]
 pub struct Unknown(pub u8);
 
-// A function by its number in a recording.
+// The row of the counts that has a number, in the order in which they are printed; no known function's where there are fewer rows.
+pub fn row(number: u8) -> Option<Call>
+    ensures { HasNumber number result }
+{
+    match number {
+        0 => Some(Call::Listing),
+        1 => Some(Call::RawAt),
+        2 => Some(Call::ArrayLen),
+        3 => Some(Call::ArrayElem),
+        4 => Some(Call::SmiSlot),
+        5 => Some(Call::NumField),
+        6 => Some(Call::BcaRtOff),
+        7 => Some(Call::DecodeSmiBytes),
+        8 => Some(Call::JumpTarget),
+        9 => Some(Call::JumpTable),
+        10 => Some(Call::MaxRegister),
+        11 => Some(Call::RegName),
+        12 => Some(Call::RenderOperand),
+        13 => Some(Call::Decode),
+        14 => Some(Call::SlotAt),
+        15 => Some(Call::TableCheck),
+        16 => Some(Call::StoreCheck),
+        17 => Some(Call::InstructionText),
+        18 => Some(Call::LastBytes),
+        19 => Some(Call::Walk),
+        20 => Some(Call::WalkCode),
+        21 => Some(Call::WalkLastBytes),
+        22 => Some(Call::LongListing),
+        23 => Some(Call::Header),
+        24 => Some(Call::JumpEntry),
+        25 => Some(Call::SlotRecords),
+        26 => Some(Call::JscdWrite),
+        27 => Some(Call::JscdList),
+        28 => Some(Call::JscdWalk),
+        29 => Some(Call::JscdDecode),
+        30 => Some(Call::WalkWith),
+        31 => Some(Call::WalkCodeWith),
+        32 => Some(Call::JscdWalkCode),
+        33 => Some(Call::JscdTarget),
+        34 => Some(Call::JscdEntry),
+        35 => Some(Call::JscdWalkWith),
+        36 => Some(Call::JscdWalkCodeWith),
+        37 => Some(Call::JscdToNew),
+        38 => Some(Call::JscdToOld),
+        _ => None,
+    }
+}
+
+// A function by its number in a recording: the first ones have the rows of their numbers, the later ones do not.
 impl TryFrom<u8> for Call {
     type Error = Unknown;
 
     fn try_from(number: u8) -> Result<Call, Unknown> {
         match number {
-            0 => Ok(Call::Listing),
-            1 => Ok(Call::RawAt),
-            2 => Ok(Call::ArrayLen),
-            3 => Ok(Call::ArrayElem),
-            4 => Ok(Call::SmiSlot),
-            5 => Ok(Call::NumField),
-            6 => Ok(Call::BcaRtOff),
-            7 => Ok(Call::DecodeSmiBytes),
-            8 => Ok(Call::JumpTarget),
-            9 => Ok(Call::JumpTable),
-            10 => Ok(Call::MaxRegister),
-            11 => Ok(Call::RegName),
-            12 => Ok(Call::RenderOperand),
-            13 => Ok(Call::Decode),
-            14 => Ok(Call::SlotAt),
-            15 => Ok(Call::TableCheck),
-            16 => Ok(Call::StoreCheck),
-            17 => Ok(Call::InstructionText),
-            18 => Ok(Call::LastBytes),
-            19 => Ok(Call::Walk),
-            20 => Ok(Call::WalkCode),
-            21 => Ok(Call::WalkLastBytes),
-            22 => Ok(Call::LongListing),
-            23 => Ok(Call::Header),
-            24 => Ok(Call::JumpEntry),
-            25 => Ok(Call::SlotRecords),
-            26 => Ok(Call::JscdWrite),
+            0..=26 => row(number).ok_or(Unknown(number)),
             27 => Ok(Call::WalkWith),
             28 => Ok(Call::WalkCodeWith),
             29 => Ok(Call::JscdToNew),
@@ -157,6 +180,8 @@ impl TryFrom<u8> for Call {
 // A file by its number in a recording.
 impl TryFrom<u8> for File {
     type Error = Unknown;
+
+    ghost try_from_gives = { NumbersFile };
 
     fn try_from(number: u8) -> Result<File, Unknown> {
         match number {

@@ -75,11 +75,11 @@ pub fn numbered(mut counts: Counts) -> Counts {
     counts
 }
 
-// One more answer of a call.
-pub fn counted(mut counts: Counts, call: Call, outcome: Outcome) -> Counts {
+// One more answer in a row, or in that of what is no call of a known function.
+pub fn counted(mut counts: Counts, row: Option<Call>, outcome: Outcome) -> Counts {
     match outcome {
-        Outcome::Same => answered(counts, call, false),
-        Outcome::Differs => answered(counts, call, true),
+        Outcome::Same => answered(counts, row, false),
+        Outcome::Differs => answered(counts, row, true),
         Outcome::NotHere => {
             counts.not_here = counts.not_here.saturating_add(1);
             counts
@@ -87,16 +87,14 @@ pub fn counted(mut counts: Counts, call: Call, outcome: Outcome) -> Counts {
     }
 }
 
-// An item that sets no file and is no call of a known function.
+// An item that sets no file and is no call.
 pub fn with_unknown(counts: Counts) -> Counts {
     unasked(numbered(counts))
 }
 
 // A call of a function that no program has here.
-pub fn unasked(mut counts: Counts) -> Counts {
-    counts.unknown = with_answer(counts.unknown, true, counts.number);
-    counts.total = with_one(counts.total, true);
-    counts
+pub fn unasked(counts: Counts) -> Counts {
+    counted(counts, None, Outcome::Differs)
 }
 
 pub fn with_codes(mut counts: Counts, codes: u64) -> Counts {
@@ -104,9 +102,14 @@ pub fn with_codes(mut counts: Counts, codes: u64) -> Counts {
     counts
 }
 
-fn answered(mut counts: Counts, call: Call, differs: bool) -> Counts {
-    let i = call as usize;
-    counts.rows[i] = with_answer(counts.rows[i], differs, counts.number);
+fn answered(mut counts: Counts, row: Option<Call>, differs: bool) -> Counts {
+    match row {
+        Some(call) => {
+            let i = call as usize;
+            counts.rows[i] = with_answer(counts.rows[i], differs, counts.number);
+        }
+        None => counts.unknown = with_answer(counts.unknown, differs, counts.number),
+    }
     counts.total = with_one(counts.total, differs);
     counts
 }

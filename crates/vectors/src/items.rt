@@ -1,8 +1,11 @@
 // The items of a vector file (oracle/FORMAT.md), read in place: nothing is copied.
-ghost use Rattle.std.specs.Prelude.{◌≡◌, ◌-◌, ◌<◌, length, take, drop};
+ghost use Rattle.std.specs.Prelude.{◌≡◌, ◌+◌, ◌-◌, ◌<◌, ◌≤◌, length, take, drop, slice_index, slice_set};
 ghost use Rattle.std.specs.Iterator.{at_most};
+ghost use Rattle.words.specs.Le.{le_at};
+ghost use Rattle.vectors.specs.Items.{contents_of, counted_kind, named, parts_after};
+ghost use Rattle.vectors.specs.Numbers.{BeginsKind, IsKindOf, file_number};
 
-use crate::calls::{Call, FILES, File, Unknown};
+use crate::calls::{FILES, File, Unknown};
 
 // A part of the vector file; a serializer's `Span` is one of a payload.
 #[derive(Clone, Copy)]
@@ -11,23 +14,26 @@ pub struct Part {
     pub len: usize,
 }
 
-// What an item does: it sets a file to its body, or to the part of the vector file that its body names, or it is a call.
+// What an item does: it sets a file to its body, or to the part of the vector file that its body names, or it is a call of the function of a number.
 #[derive(Clone, Copy)]
 pub enum Kind {
     Sets(File),
     Names(File),
-    Call(Call),
+    Call(u8),
 }
 
 // By an item's first byte.
 impl TryFrom<u8> for Kind {
     type Error = Unknown;
 
+    ghost try_from_gives = { BeginsKind };
+
     fn try_from(byte: u8) -> Result<Kind, Unknown> {
         match byte {
             0..=15 => File::try_from(byte).map(Kind::Sets),
             16..=31 => File::try_from(byte - 16).map(Kind::Names),
-            32..=255 => Call::try_from(byte - 32).map(Kind::Call),
+            32..=254 => Ok(Kind::Call(byte - 32)),
+            255 => Err(Unknown(byte)),
         }
     }
 }
@@ -79,7 +85,8 @@ pub struct Files {
 
 // The item at a place; it ends behind that place.
 pub fn item_at(bytes: &[u8], at: usize) -> Item
-    ensures { at < length bytes.now → at < result.next }
+    ensures moves { at < length bytes.now → at < result.next }
+    ensures begins { at + 5 + le_at bytes.now (at + 1) 4 ≤ length bytes.now → IsKindOf (slice_index bytes.now at) result.kind }
 {
     let size = bytes.len();
     if size <= at {
@@ -95,17 +102,17 @@ pub fn item_at(bytes: &[u8], at: usize) -> Item
     }
     let body = Part { at: at + 5, len };
     Item {
-        kind: kind_at(bytes, at, len),
+        kind: kind_at(bytes, at),
         body,
         next: at + 5 + len,
     }
 }
 
-// The kind of an item with a body of len bytes; a part is named by eight.
-fn kind_at(bytes: &[u8], at: usize, len: usize) -> Option<Kind> {
-    Kind::try_from(words::byte_at(bytes, at))
-        .ok()
-        .filter(|kind| len == 8 || !matches!(kind, Kind::Names(_)))
+// The kind of the item at a place, by its first byte alone.
+fn kind_at(bytes: &[u8], at: usize) -> Option<Kind>
+    ensures { IsKindOf (slice_index bytes.now at) result }
+{
+    Kind::try_from(words::byte_at(bytes, at)).ok()
 }
 
 // What is left is no whole item.
@@ -128,8 +135,21 @@ pub fn no_files() -> Files {
     }
 }
 
+// What an item is counted as: a part is named by eight bytes, and an item that names it by other ones is none that is known, though it sets its
+// file.
+pub fn kind_of(item: Item) -> Option<Kind>
+    ensures { result ≡ counted_kind item.kind item.body.len }
+{
+    match item.kind {
+        Some(Kind::Names(_)) if item.body.len != 8 => None,
+        kind => kind,
+    }
+}
+
 // The files behind an item: one that it sets is its body, or the part that its body names.
-pub fn files_after(bytes: &[u8], files: Files, item: Item) -> Files {
+pub fn files_after(bytes: &[u8], files: Files, item: Item) -> Files
+    ensures { result.parts ≡ parts_after bytes.now files.parts item.body item.kind }
+{
     match item.kind {
         Some(Kind::Sets(file)) => with_file(files, file, item.body),
         Some(Kind::Names(file)) => with_file(files, file, named_part(bytes, item.body)),
@@ -138,7 +158,9 @@ pub fn files_after(bytes: &[u8], files: Files, item: Item) -> Files {
 }
 
 // The part that eight bytes name: its start and its length.
-fn named_part(bytes: &[u8], body: Part) -> Part {
+fn named_part(bytes: &[u8], body: Part) -> Part
+    ensures { result ≡ named bytes.now body }
+{
     let numbers = lent(bytes, body);
     Part {
         at: words::u32_at(numbers, 0) as usize,
@@ -146,13 +168,27 @@ fn named_part(bytes: &[u8], body: Part) -> Part {
     }
 }
 
-fn with_file(mut files: Files, file: File, part: Part) -> Files {
+fn with_file(mut files: Files, file: File, part: Part) -> Files
+    ensures { result.parts ≡ slice_set files.parts (file_number file) part }
+{
     files.parts[file as usize] = part;
     files
 }
 
+// The contents of the file of a number.
+pub fn file<'a>(bytes: &'a [u8], files: Files, k: u8) -> &'a [u8]
+    ensures { result.now ≡ contents_of bytes.now files.parts k }
+{
+    match File::try_from(k) {
+        Ok(file) => contents(bytes, files, file),
+        Err(_) => &bytes[..0],
+    }
+}
+
 // The contents of a file.
-pub fn contents<'a>(bytes: &'a [u8], files: Files, file: File) -> &'a [u8] {
+pub fn contents<'a>(bytes: &'a [u8], files: Files, file: File) -> &'a [u8]
+    ensures { result.now ≡ contents_of bytes.now files.parts (file_number file) }
+{
     lent(bytes, files.parts[file as usize])
 }
 

@@ -5,12 +5,12 @@ use std::io;
 use std::rt::Files;
 
 // A file into a buffer that is longer than any of them: how many bytes.
-pub fn read(rt: &(impl Files + Eprint), name: &str, buffer: &mut [u8]) -> usize {
-    let Some(size) = inputs::load_file(rt, name.as_bytes(), buffer) else {
+pub fn read(rt: &(impl Files + Eprint), name: &[u8], buffer: &mut [u8]) -> usize {
+    let Some(size) = inputs::load_file(rt, name, buffer) else {
         return 0;
     };
     if size == buffer.len() {
-        inputs::fail(rt, name.as_bytes(), io::Error::other("too long"));
+        inputs::fail(rt, name, io::Error::other("too long"));
         return 0;
     }
     size
@@ -24,8 +24,9 @@ pub fn both(a: Total, b: Total) -> Total {
 }
 
 // A file's name and its rows.
-pub fn print_counts(rt: &impl Print, name: &str, counts: Counts) -> Total {
-    let _ = println!(rt; "{name}");
+pub fn print_counts(rt: &impl Print, name: &[u8], counts: Counts) -> Total {
+    let _ = rt.write_all(name);
+    let _ = println!(rt; "");
     print_rows(rt, counts);
     print_more(rt, "codes of walk_last_bytes", counts.codes);
     print_more(rt, "not asked here", counts.not_here);
