@@ -123,7 +123,7 @@ fn put_operand(
     let runtime = contents(bytes, files, File::Runtime);
     let intrinsic = contents(bytes, files, File::Intrinsic);
     let frame = frame_of(bytes, files);
-    bytecode::render_operand(out, at, types, runtime, intrinsic, frame, params, op)
+    bytecode::render_operand(out, at, types, runtime, intrinsic, frame, params, Some(op))
 }
 
 // 18: the instruction in the code with one byte more, for each byte, against runs of equal answers.
