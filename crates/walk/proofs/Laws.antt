@@ -1,6 +1,6 @@
 -- What the functions learn of what is decoded and kept, and of room. Assumes nothing.
-use Prim.Native.Nat.{ℕ}
-use mathlib.Core.Path.{◌≡◌, refl, ap, ◌∙◌}
+use Prim.Native.Nat.{ℕ, ◌≤◌}
+use mathlib.Core.Path.{◌≡◌, refl, sym, ap, subst, ◌∙◌}
 use mathlib.Core.Bool.{Bool, cond}
 use mathlib.Core.List.{List}
 use mathlib.Core.Logic.{⊎_elim}
@@ -30,7 +30,7 @@ pub decoded_is : (ops : List ℕ) (u : Function) (code types : List ℕ) (rfs : 
 decoded_is ops u code types rfs o t = ap (decode_at code (opcodes_of ops) types o rfs) t
 
 -- what is kept of an instruction is checked as its table is, where number 16 refuses both or none
-check_is : (t : Result (Option Entries) BadSwitch) (at : ℕ) → cond (is_refused t) (refused fault.BadSwitch at) (Ok tt) ≡ table_check t at
+pub check_is : (t : Result (Option Entries) BadSwitch) (at : ℕ) → cond (is_refused t) (refused fault.BadSwitch at) (Ok tt) ≡ table_check t at
 check_is (Ok None) at = refl
 check_is (Ok (Some e)) at = refl
 check_is (Err e) at = refl
@@ -51,6 +51,10 @@ stored_is size (Ok p) = refl
 stored_is size (Err e) = refl
 
 -- ---- room
+-- an array of k numbers has room for n
+pub room_of : (n m k : ℕ) → n ≤ k → m ≡ k → n ≤ m
+room_of n m k h e = subst (λ (x : ℕ). n ≤ x) (sym e) h
+
 -- a part of room of zeros is one
 pub clear_part : (n : ℕ) (l : List ℕ) → Clear l → Clear (take n l)
 clear_part n l c t = ⊎_elim (λ h. get_or-take n l t 0 h ∙ c t) (λ h. get_or-eq_default (take n l) 0 (omega (arith, length-take n l))) (under? t n)

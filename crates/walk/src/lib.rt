@@ -249,8 +249,9 @@ fn walk_in(
     let w = &mut words[..n];
     let c = &mut catches[..n];
     keep_code(code, opcodes, types, slots, payload, f, h, w)?;
+    let late = handlers::check_handlers(handlers, n);
     refusal::refuse_unless(n <= marks.len(), Fault::ShortMarks)?;
-    handlers::check_handlers(handlers, n)?;
+    late?;
     handlers::catch_table(code, opcodes, handlers, f.prefixes, c);
     let e = Elements { ts: f.ts, pool };
     Ok(search::search(slots, payload, e, h, w, c, &mut marks[..n], queue))

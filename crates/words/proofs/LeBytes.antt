@@ -1,5 +1,5 @@
 -- Little-endian bytes written and read, over the width. Assumes nothing.
-use Rattle.std.proofs.Common.{◌≡◌, ℕ, zero, suc, ◌+◌, ◌*◌, ◌/◌, ◌%◌, ◌^◌, ◌<◌, ◌≤◌, List, [], ◌∷◌, ◌++◌, length, get_or, take, drop, sym, refl, ap, ◌∙◌, mod-lt, mod-eq_of_lt, pow-suc, mul_right_comm, arith, drop-cons, get_or-append-add}
+use Rattle.std.proofs.Common.{◌≡◌, ℕ, zero, suc, ◌+◌, ◌-◌, ◌*◌, ◌/◌, ◌%◌, ◌^◌, ◌<◌, ◌≤◌, List, [], ◌∷◌, ◌++◌, length, get_or, take, drop, sym, refl, ap, ◌∙◌, mod-lt, mod-eq_of_lt, pow-suc, mul_right_comm, arith, drop-cons, get_or-append-add}
 use native.Mathlib.Nat.{div-add-mod, mul-add-mod_self_left, one-le-pow}
 use Rattle.words.specs.Le.{le_at, le_bytes}
 use Rattle.words.proofs.Le.{Bytes}
@@ -69,3 +69,12 @@ bytes_of-le s bytes (suc w) i h =
     let high : (b + 256 * r) / 256 ≡ r = omega (arith, bytes i) in
     let e : suc i ≡ i + 1 = omega arith in
     rw (low, high, bytes_of-le s bytes w (i + 1) (omega arith), drop-cons s i 0 (omega arith), e)
+
+-- as a loop puts them: the next byte, and none at the end
+pub next_byte : (m k v : ℕ) → k < m → le_bytes (m - k) v ≡ (v % 256 ∷ []) ++ le_bytes (m - (k + 1)) (v / 256)
+unfolding le_bytes
+next_byte m k v h = let e : m - k ≡ suc (m - (k + 1)) = omega arith in rw e
+
+pub no_byte : (m k v : ℕ) → m ≤ k → le_bytes (m - k) v ≡ []
+unfolding le_bytes
+no_byte m k v h = let e : m - k ≡ 0 = omega arith in rw e

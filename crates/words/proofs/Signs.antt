@@ -1,8 +1,8 @@
 -- Laws of signed numbers: what the code's conversions compute, over the width, and what wraps. Assumes nothing.
-use Rattle.std.proofs.Common.{◌≡◌, ℕ, suc, ◌+◌, ◌-◌, ◌%◌, ◌^◌, ◌<◌, ◌≤◌, Bool, true, false, cond, eqb, ltb, ℤ, pos, negsuc, ◌+ℤ◌, ◌-ℤ◌, sym, refl, ap, ◌∙◌, lt_of_lt_of_le, mod-eq_of_lt, arith, to_z-of_z, w8, w16, w32, w64, Fits, SFits, to_z, of_z, ltb-false, ltb-true, le-ltb, eq-eqb, ne_eqb, eqb-true}
+use Rattle.std.proofs.Common.{◌≡◌, ℕ, zero, suc, ◌+◌, ◌-◌, ◌/◌, ◌%◌, ◌^◌, ◌<◌, ◌≤◌, Bool, true, false, cond, eqb, ltb, ℤ, pos, negsuc, ◌+ℤ◌, ◌-ℤ◌, neg_ℤ, sym, refl, ap, ◌∙◌, lt_of_lt_of_le, mod-eq_of_lt, arith, to_z-of_z, w8, w16, w32, w64, Fits, SFits, to_z, of_z, ltb-false, ltb-true, le-ltb, eq-eqb, ne_eqb, eqb-true}
 use native.Mathlib.Nat.{pow-le-pow_right}
 use Rattle.laws.proofs.Tests.{clash}
-use lib.Signed.{lt_z}
+use lib.Signed.{lt_z, mag, quot_z}
 use mir.Syntax.{Width, w128}
 use Rattle.std.specs.Int.{int_wrap, int_wrapping_add, int_wrapping_sub}
 use Rattle.std.proofs.lemmas.Int.{int_wrap-add_left, wrapping_add_is, wrapping_sub_is, wrapping_add_onto}
@@ -140,3 +140,12 @@ pub low_low : (z : ℤ) → modulo (2 ^ 64) z % 2 ^ 32 ≡ modulo (2 ^ 32) z
 unfolding modulo
 low_low (pos n) = omega arith
 low_low (negsuc n) = omega arith
+
+-- ---- shorter numbers fit
+mag_neg : (k : ℕ) → mag (neg_ℤ (pos k)) ≤ k
+mag_neg zero = omega arith
+mag_neg (suc k) = omega arith
+
+pub eighth_fits : (z : ℤ) → SFits w32 z → SFits w32 (quot_z z (pos 8))
+eighth_fits (pos a) h = record { sfits = omega (arith, h.sfits) }
+eighth_fits (negsuc a) h = record { sfits = omega (arith, h.sfits, mag_neg (suc a / 8)) }

@@ -24,13 +24,13 @@ returns-in_err-refuse_unless c =
     let p = err_from_is_err_and c.from_residual-in_err-refuse_unless.result c.from_residual-in_err-refuse_unless.ensures.1 in
     rw (p.1, p.2) (source_refused s a.marks.now _ (second_refused s _ c.keep_code.ensures.checked c.in_ok-keep_code.was c.refuse_unless.ensures c.in_err-refuse_unless.was))
 
-pub returns-in_err-check_handlers : goal.returns-in_err-check_handlers
-returns-in_err-check_handlers c =
+pub returns-in_err-late : goal.returns-in_err-late
+returns-in_err-late c =
     let a = c.args in
     let s = source_of a.code.now a.opcodes.now a.types.now a.slots.now a.payload.now a.handlers.now a.f in
-    let p = err_from_is_err_and c.from_residual-in_err-check_handlers.result c.from_residual-in_err-check_handlers.ensures.1 in
+    let p = err_from_is_err_and c.from_residual-in_err-late.result c.from_residual-in_err-late.ensures.1 in
     rw (p.1, p.2)
-    (source_refused s a.marks.now _ (sym c.in_err-check_handlers.was ∙ third_is s _ c.keep_code.ensures.checked c.in_ok-keep_code.was c.refuse_unless.ensures c.in_ok-refuse_unless.was c.check_handlers.ensures))
+    (source_refused s a.marks.now _ (sym c.in_err-late.was ∙ third_is s _ c.keep_code.ensures.checked c.in_ok-keep_code.was c.refuse_unless.ensures c.in_ok-refuse_unless.was c.check_handlers-late.ensures))
 
 pub returns : goal.returns
 returns c =
@@ -38,7 +38,7 @@ returns c =
     let p = c.requires in
     let n = length a.code.now in
     let s = source_of a.code.now a.opcodes.now a.types.now a.slots.now a.payload.now a.handlers.now a.f in
-    let ok = sym c.in_ok-check_handlers.was ∙ third_is s _ c.keep_code.ensures.checked c.in_ok-keep_code.was c.refuse_unless.ensures c.in_ok-refuse_unless.was c.check_handlers.ensures in
+    let ok = sym c.in_ok-late.was ∙ third_is s _ c.keep_code.ensures.checked c.in_ok-keep_code.was c.refuse_unless.ensures c.in_ok-refuse_unless.was c.check_handlers-late.ensures in
     let r = c.search in
     let heads = c.keep_code.auto.heads ∙ length-take-le n a.heads.now p.1 in
     let room : Fits a.code.now a.handlers.now (take n a.catches.now) = record { as_long = length-take-le n a.catches.now p.3; short = p.0; few = handlers_few s _ (sym ok); clear = clear_part n a.catches.now p.6 } in
