@@ -7,7 +7,7 @@
 
    Stack: a walk call, with handler records or without, takes up to 992,000 bytes whatever its code's length (fourteen bytes for each of 65,536
    bytes of code, four of them for handlers, and two summaries of a pool's slots, are part of each call), so that a thread of 1 MB has it and one of
-   512 KB has not; jscd_list up to 68,000, jscd_target and jscd_entry up to 17,600, jscd_to_new and jscd_to_old up to 2,200, jscd_decode and jscd_write up to 1,700. Measured on the
+   512 KB has not; jscd_list up to 68,000, jscd_target and jscd_entry up to 17,600, jscd_to_new and jscd_to_old up to 2,200, jscd_decode and jscd_write up to 1,800. Measured on the
    archive (x86-64), not proved. */
 #ifndef JSCD_H
 #define JSCD_H
