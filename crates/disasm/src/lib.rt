@@ -351,7 +351,7 @@ fn table_at(
     }
     let rfs = f.frame.reg_file_start;
     match decoder::decode_at(code, opcodes, types, at, rfs, f.prefixes) {
-        Ok(Some(instr)) => targets::jump_table_unchecked(f.pool, flow, &instr),
+        Ok(Some(instr)) => targets::jump_table_unchecked(f.pool, flow, instr),
         _ => Ok(None),
     }
 }

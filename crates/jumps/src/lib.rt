@@ -100,7 +100,7 @@ pub fn jump_entry(
     let Some(instr) = decoded else {
         return Ok(None);
     };
-    let from = targets::here(&instr);
+    let from = targets::here(instr);
     Ok(entry_of(slots, payload, shape.tagged_size, pool, from, table, k))
 }
 
@@ -118,7 +118,7 @@ fn target_of(
 {
     let jump = decoded?;
     let flow = flow::flow_of(opcodes, jump.opcode);
-    Some(targets::jump_target_unchecked(slots, payload, ts, pool, flow, &jump))
+    Some(targets::jump_target_unchecked(slots, payload, ts, pool, flow, jump))
 }
 
 // The table of what was decoded at a place; number 16 at the instruction's start.
@@ -135,7 +135,7 @@ fn table_of(
         return Ok(None);
     };
     let flow = flow::flow_of(opcodes, switch.opcode);
-    match targets::jump_table_unchecked(pool, flow, &switch) {
+    match targets::jump_table_unchecked(pool, flow, switch) {
         Ok(table) => Ok(Some(table)),
         Err(BadSwitch) => Err(Refusal {
             fault: Fault::BadSwitch,

@@ -81,10 +81,10 @@ fn put_targets(
         (goes_by (elems_of slots.now payload.now f) (found f.pool) flow instr.now) out.new result }
 {
     let pool = f.pool;
-    let target = targets::jump_target_in(slots, payload, blocks, f.ts, pool, flow, instr);
+    let target = targets::jump_target_in(slots, payload, blocks, f.ts, pool, flow, *instr);
     let p = put_target(out, at, target);
-    let table = targets::jump_table_unchecked(pool, flow, instr);
-    let here = targets::here(instr);
+    let table = targets::jump_table_unchecked(pool, flow, *instr);
+    let here = targets::here(*instr);
     let p = put_table(out, p, slots, payload, blocks, f, here, table);
     text::put_byte(out, p, b'\n')
 }

@@ -116,7 +116,7 @@ fn here_of(bytes: &[u8], files: Files, call: &[u8]) -> Option<u64> {
         words::u64_at(call, 8) as usize,
     );
     match decoded {
-        Ok(Some(instr)) => Some(targets::here(&instr)),
+        Ok(Some(instr)) => Some(targets::here(instr)),
         Ok(None) | Err(_) => None,
     }
 }

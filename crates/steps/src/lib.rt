@@ -30,11 +30,11 @@ pub fn kept_of(
     ts: u8,
     pool: Option<PoolSlots>,
     flow: Flow,
-    instr: &Instr,
+    instr: Instr,
     size: u8,
 ) -> Result<Kept, BadSwitch>
     ensures { PoolBlocked slots.now ts pool blocks.now
-        → result ≡ kept_of (pool_searched slots.now payload.now ts pool) (found pool) flow instr.now size }
+        → result ≡ kept_of (pool_searched slots.now payload.now ts pool) (found pool) flow instr size }
 {
     match flow.kind {
         Kind::On => Ok(kept_on(size)),
@@ -95,11 +95,11 @@ fn kept_jump(
     ts: u8,
     pool: Option<PoolSlots>,
     flow: Flow,
-    instr: &Instr,
+    instr: Instr,
     head: u32,
 ) -> Kept
     ensures { PoolBlocked slots.now ts pool blocks.now
-        → result ≡ kept_to head (jump_target (pool_searched slots.now payload.now ts pool) flow instr.now) }
+        → result ≡ kept_to head (jump_target (pool_searched slots.now payload.now ts pool) flow instr) }
 {
     let target = targets::jump_target_in(slots, payload, blocks, ts, pool, flow, instr);
     Kept {

@@ -84,9 +84,9 @@ pub fn jump_target_unchecked(
     ts: u8,
     pool: Option<PoolSlots>,
     flow: Flow,
-    instr: &Instr,
+    instr: Instr,
 ) -> Option<u64>
-    ensures { result ≡ jump_target (pool_searched slots.now payload.now ts pool) flow instr.now }
+    ensures { result ≡ jump_target (pool_searched slots.now payload.now ts pool) flow instr }
 {
     let none = [0u32; 1];
     jump_target_in(slots, payload, &none, ts, pool, flow, instr)
@@ -101,10 +101,10 @@ pub fn jump_target_in(
     ts: u8,
     pool: Option<PoolSlots>,
     flow: Flow,
-    instr: &Instr,
+    instr: Instr,
 ) -> Option<u64>
     ensures { PoolBlocked slots.now ts pool blocks.now
-        → result ≡ jump_target (pool_searched slots.now payload.now ts pool) flow instr.now }
+        → result ≡ jump_target (pool_searched slots.now payload.now ts pool) flow instr }
 {
     let kind = flow.kind;
     if !is_jump(kind) {
@@ -136,9 +136,9 @@ pub fn jump_target_in(
 pub fn jump_table_unchecked(
     pool: Option<PoolSlots>,
     flow: Flow,
-    instr: &Instr,
+    instr: Instr,
 ) -> Result<Option<Entries>, BadSwitch>
-    ensures { result ≡ jump_table (found pool) flow instr.now }
+    ensures { result ≡ jump_table (found pool) flow instr }
 {
     let kind = flow.kind;
     if !is_switch(kind) {
@@ -193,8 +193,8 @@ pub fn jump_entry_in(
 }
 
 // Where an instruction's distances count from: its opcode byte.
-pub fn here(instr: &Instr) -> u64
-    ensures { result ≡ here instr.now }
+pub fn here(instr: Instr) -> u64
+    ensures { result ≡ here instr }
 {
     let prefix = if 1 < instr.scale { 1 } else { 0 };
     (instr.offset as u64).wrapping_add(prefix)
@@ -202,8 +202,8 @@ pub fn here(instr: &Instr) -> u64
 
 // Operand k of an instruction.
 #[tactic(auto, unfolding(crate::specs::Targets::operand_of))]
-pub fn operand_of(instr: &Instr, k: u8) -> Option<Operand>
-    ensures { result ≡ operand_of instr.now k }
+pub fn operand_of(instr: Instr, k: u8) -> Option<Operand>
+    ensures { result ≡ operand_of instr k }
 {
     let at = k as usize;
     if 8 <= at || instr.count <= at {
@@ -214,8 +214,8 @@ pub fn operand_of(instr: &Instr, k: u8) -> Option<Operand>
 
 // The operand n behind operand k.
 #[tactic(auto, unfolding(crate::specs::Targets::operand_of))]
-fn operand_after(instr: &Instr, k: u8, n: u8) -> Option<Operand>
-    ensures { result ≡ operand_of instr.now (k + n) }
+fn operand_after(instr: Instr, k: u8, n: u8) -> Option<Operand>
+    ensures { result ≡ operand_of instr (k + n) }
 {
     operand_of(instr, k.checked_add(n)?)
 }

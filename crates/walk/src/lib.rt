@@ -369,7 +369,7 @@ fn keep_jump(
     let Ok(Some(instr)) = decoder::decode_at(code, opcodes, types, i, rfs, f.prefixes) else {
         return Ok(steps::kept_on(size));
     };
-    steps::kept_of(slots, payload, blocks, f.ts, f.pool, flow, &instr, size)
+    steps::kept_of(slots, payload, blocks, f.ts, f.pool, flow, instr, size)
 }
 
 // Number 16 for a table that is refused.

@@ -21,7 +21,7 @@ returns-in-Ends c = λ b. ap (λ (k : Kept). Ok k) c.kept_end.ensures ∙ kept_b
 pub returns-in-Jumps : goal.returns-in-Jumps
 returns-in-Jumps c = λ b.
     let a = c.args in
-    let lem = kept_by_lem (pool_searched a.slots.now a.payload.now a.ts a.pool) (found a.pool) a.flow a.instr.now a.size in
+    let lem = kept_by_lem (pool_searched a.slots.now a.payload.now a.ts a.pool) (found a.pool) a.flow a.instr a.size in
     ap (λ (k : Kept). Ok k) (c.kept_jump.ensures b) ∙ ⊎_elim (lem Jumps) (lem JumpsBack) c.in-Jumps.is
 
 pub returns-in-Branches : goal.returns-in-Branches
@@ -31,4 +31,4 @@ pub returns-in-Switch : goal.returns-in-Switch
 returns-in-Switch c = λ b.
     let a = c.args in
     c.kept_table.ensures ∙ ap (λ (t : Result (Option Entries) BadSwitch). kept_table t c.prefix_of.result a.size) c.jump_table_unchecked.ensures
-    ∙ ap (λ (p : ℕ). kept_table (jump_table (found a.pool) a.flow a.instr.now) p a.size) c.prefix_of.ensures ∙ kept_by_lem _ _ _ _ _ Switch c.in-Switch.is
+    ∙ ap (λ (p : ℕ). kept_table (jump_table (found a.pool) a.flow a.instr) p a.size) c.prefix_of.ensures ∙ kept_by_lem _ _ _ _ _ Switch c.in-Switch.is
